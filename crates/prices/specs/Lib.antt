@@ -1,0 +1,5 @@
+pub mod Laws
+pub mod PlainKind
+pub mod PlainLaws
+pub mod RankedKind
+pub mod RankedLaws
