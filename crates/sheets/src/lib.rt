@@ -1,0 +1,20 @@
+// Sheets: a control program as it is keyed in, record by record, and what its lines use and cost.
+pub mod access;
+pub mod calls;
+pub mod fault;
+pub mod field;
+pub mod line;
+pub mod record;
+pub mod sheet;
+pub mod usage;
+pub mod words;
+
+pub use access::Access;
+pub use access::Tally;
+pub use fault::Cause;
+pub use fault::SheetFault;
+pub use fault::SheetRefusal;
+pub use line::Line;
+pub use line::Width;
+pub use record::record_length;
+pub use sheet::Sheet;
