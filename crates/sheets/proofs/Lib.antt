@@ -1,2 +1,3 @@
 mod Edited
+mod Totals
 mod Walk
