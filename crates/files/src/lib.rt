@@ -1,0 +1,14 @@
+// Files: a keyed sheet as a file, cut into records and handed to a sheet.
+pub mod fault;
+pub mod keying;
+pub mod part;
+pub mod reader;
+pub mod words;
+
+pub use fault::FileCause;
+pub use fault::FileFault;
+pub use fault::FileRefusal;
+pub use fault::RecordRefusal;
+pub use keying::key_in;
+pub use part::Part;
+pub use reader::Reader;

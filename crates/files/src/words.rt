@@ -1,0 +1,1 @@
+// Refusals of files in words.
