@@ -1,8 +1,8 @@
 // Files: a keyed sheet as a file, cut into records and handed to a sheet.
 pub mod fault;
-pub mod keying;
-pub mod part;
-pub mod reader;
+mod keying;
+mod part;
+mod reader;
 pub mod words;
 
 pub use fault::FileCause;

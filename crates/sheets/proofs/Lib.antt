@@ -1,3 +1,4 @@
 mod Edited
+mod Ruling
 mod Totals
 mod Walk

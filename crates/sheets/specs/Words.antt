@@ -11,6 +11,7 @@ use Rattle.sheets.specs.declared.fault.Cause.{Cause}
 use Rattle.sheets.specs.declared.fault.Cause.the-variants.{UnknownKind, WrongLength, OutOfRange, DeclaredAgain, Undeclared, WrongWidth, SheetFull, NoLine}
 use Rattle.sheets.specs.declared.fault.SheetRefusal.{SheetRefusal}
 use Rattle.sheets.specs.declared.fault.SheetRefusal.the-variants.{Sheet}
+use Rattle.sheets.specs.Faults.{Told, told}
 
 abbrev pub widthWords : Width → List ℕ
 widthWords Word = codes "word"
@@ -43,5 +44,11 @@ causeWords WrongWidth = codes "a variable has the wrong width"
 causeWords SheetFull = codes "64 lines stand already"
 causeWords NoLine = codes "no line stands"
 
+abbrev pub reasonWords : SheetRefusal → List ℕ
+reasonWords (Sheet f) = causeWords (f .cause)
+
+abbrev pub toldWords : Told → List ℕ
+toldWords t = codes " (refusal " ++ (decimal (t .number) ++ (codes ", place " ++ (decimal (t .place) ++ (codes ", depth " ++ (decimal (t .depth) ++ codes ")")))))
+
 abbrev pub refusalWords : SheetRefusal → List ℕ
-refusalWords (Sheet f) = causeWords (f .cause)
+refusalWords r = reasonWords r ++ toldWords (told r)

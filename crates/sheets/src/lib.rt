@@ -1,12 +1,12 @@
 // Sheets: a control program as it is keyed in, record by record, and what its lines use and cost.
 pub mod access;
-pub mod calls;
+mod calls;
 pub mod fault;
-pub mod field;
+mod field;
 pub mod line;
-pub mod record;
+mod record;
 pub mod sheet;
-pub mod usage;
+mod usage;
 pub mod words;
 
 pub use access::Access;

@@ -87,15 +87,19 @@ fn reason(cause: Cause) -> &'static str
     }
 }
 
-pub impl fmt::Display for SheetRefusal as RefusalDisplay {
+pub impl fmt::Display for SheetRefusal as SheetRefusalDisplay {
     ghost shown = { λ r. Some (refusalWords r) };
 
     fn fmt<W: fmt::Write>(&self, f: &mut fmt::Formatter<W>) -> fmt::Result {
-        match *self {
-            SheetRefusal::Sheet(fault) => {
-                let reason = reason(fault.cause);
-                write!(f, "{reason}")
-            }
-        }
+        let reason = match *self {
+            SheetRefusal::Sheet(fault) => reason(fault.cause),
+        };
+        let number = self.number();
+        let place = self.place();
+        let depth = self.depth();
+        write!(
+            f,
+            "{reason} (refusal {number}, place {place}, depth {depth})"
+        )
     }
 }
