@@ -25,6 +25,9 @@ pub record Piece : Type 0 where
 abbrev pub piece : ℕ → List ℕ → Piece
 piece i bs = record { at = i; bytes = bs }
 
+abbrev pub bytesOf : Piece → List ℕ
+bytesOf p = p .bytes
+
 -- the records of what is left of a file from offset `i` on, at most so many; the last one may be short
 unfoldable pub cutFrom : ℕ → ℕ → List ℕ → List Piece
 cutFrom zero i bs = []

@@ -1,4 +1,5 @@
 pub mod Cut
 pub mod Faults
 pub mod Keyed
+pub mod Rules
 pub mod Words

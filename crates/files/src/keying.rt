@@ -3,7 +3,9 @@ ghost use mathlib.Core.Path.{_≡_};
 ghost use lib.Dec.{eqb};
 ghost use lib.ListN.{getD};
 ghost use Rattle.sheets.specs.Contents.{contentOf, answered, left};
-ghost use Rattle.files.specs.Keyed.{entering, located, fitted, keyed, answerOf};
+ghost use Rattle.files.specs.Cut.{cut};
+ghost use Rattle.files.specs.Keyed.{entering, located, fitted, keyed, keyedRecords, answerOf};
+ghost use Rattle.files.specs.Rules.{FirstFault};
 use crate::fault::FileCause;
 use crate::fault::FileFault;
 use crate::fault::FileRefusal;
@@ -62,6 +64,7 @@ fn fit(length: usize) -> Result<(), FileFault>
 pub fn key_in(file: &[u8], sheet: &mut Sheet) -> Result<(), FileRefusal>
     ensures answer { λ r. ⌜ r ≡ answerOf (keyed (contentOf (now (sheet .entry))) (now (file .entry)) .fault) ⌝ }
     ensures sheet { λ _. ⌜ contentOf (now (sheet .exit)) ≡ keyed (contentOf (now (sheet .entry))) (now (file .entry)) .content ⌝ }
+    ensures first { λ _. ⌜ FirstFault (contentOf (now (sheet .entry))) (cut (now (file .entry))) (keyedRecords (contentOf (now (sheet .entry))) (cut (now (file .entry)))) ⌝ }
 {
     fit(file.len())?;
     let mut reader = Reader::new(file);

@@ -3,7 +3,9 @@ ghost use mathlib.Core.Path.{_≡_};
 ghost use mathlib.Core.List.{[], _∷_};
 ghost use lib.ListN.{length};
 ghost use Rattle.std.specs.declared.option.Option.the-variants.{Some, None};
-ghost use Rattle.files.specs.Cut.{sizeOf, cut, leftOf, pieceOf};
+ghost use Rattle.std.specs.Joined.{joined};
+ghost use Rattle.files.specs.Cut.{sizeOf, bytesOf, cut, leftOf, pieceOf};
+ghost use Rattle.files.specs.Rules.{Cuts};
 use crate::part::Part;
 use sheets::record_length;
 
@@ -25,7 +27,9 @@ fn size_of(kind: u8) -> usize
 
 impl<'a> Reader<'a> {
     pub fn new(file: &'a [u8]) -> Reader<'a>
-        ensures { λ r. ⌜ leftOf r ≡ cut (now (file .entry)) ⌝ }
+        ensures parts { λ r. ⌜ leftOf r ≡ cut (now (file .entry)) ⌝ }
+        ensures rule { λ _. ⌜ Cuts 0 (now (file .entry)) (cut (now (file .entry))) ⌝ }
+        ensures whole { λ _. ⌜ joined bytesOf (cut (now (file .entry))) ≡ now (file .entry) ⌝ }
     {
         Reader { file, offset: 0 }
     }

@@ -4,7 +4,7 @@ ghost use Rattle.std.specs.declared.option.Option.the-variants.{Some};
 ghost use Rattle.files.specs.Words.{causeWords, refusalWords};
 use crate::fault::FileCause;
 use crate::fault::FileRefusal;
-use sheets::words::SheetRefusalDisplay;
+use sheets::SheetRefusalDisplay;
 use std::fmt;
 
 fn reason(cause: FileCause) -> &'static str

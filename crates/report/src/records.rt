@@ -1,10 +1,10 @@
 // The records of a file, each with its offset and in words.
 use files::Part;
 use files::Reader;
+use sheets::Line;
+use sheets::LineDisplay;
 use sheets::Sheet;
-use sheets::line::Line;
-use sheets::words::LineDisplay;
-use sheets::words::WidthDisplay;
+use sheets::WidthDisplay;
 use std::io;
 
 // Prints an accepted record; `number` is that of the next line. Answers the number after it.

@@ -1,18 +1,18 @@
 // What a file holds, what its variables are used for, and what it costs.
 use crate::records::print_records;
 use files::FileRefusal;
+use files::FileRefusalDisplay;
 use files::key_in;
-use files::words::FileRefusalDisplay;
 use prices::Plain;
+use prices::PlainDisplay;
+use prices::PlainPrice;
 use prices::Ranked;
-use prices::plain_kind::PlainDisplay;
-use prices::plain_kind::PlainPrice;
-use prices::ranked_kind::RankedDisplay;
-use prices::ranked_kind::RankedPrice;
+use prices::RankedDisplay;
+use prices::RankedPrice;
 use sheets::Access;
 use sheets::Sheet;
 use sheets::Width;
-use sheets::words::WidthDisplay;
+use sheets::WidthDisplay;
 use std::io;
 
 fn print_variable(rt: &impl Print, sheet: &Sheet, variable: u8, width: Width) -> io::Result<()> {
