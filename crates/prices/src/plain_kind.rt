@@ -14,12 +14,6 @@ impl Plain {
     {
         Plain { value }
     }
-
-    pub fn value(self) -> u32
-        ensures { λ r. ⌜ r ≡ self .value ⌝ }
-    {
-        self.value
-    }
 }
 
 pub impl Price for Plain as PlainPrice {
@@ -38,17 +32,15 @@ pub impl Price for Plain as PlainPrice {
     ghost laws = { plain-laws };
 
     fn zero() -> Plain {
-        Plain { value: 0 }
+        Plain::new(0)
     }
 
     fn top() -> Plain {
-        Plain { value: u32::MAX }
+        Plain::new(u32::MAX)
     }
 
     fn add(self, other: Plain) -> Plain {
-        Plain {
-            value: self.value.saturating_add(other.value),
-        }
+        Plain::new(self.value.saturating_add(other.value))
     }
 
     fn at_most(self, other: Plain) -> bool {
@@ -56,15 +48,11 @@ pub impl Price for Plain as PlainPrice {
     }
 
     fn access_price(weight: u8) -> Plain {
-        Plain {
-            value: 3 * weight as u32,
-        }
+        Plain::new(3 * weight as u32)
     }
 
     fn move_price(weight: u8) -> Plain {
-        Plain {
-            value: weight as u32,
-        }
+        Plain::new(weight as u32)
     }
 }
 

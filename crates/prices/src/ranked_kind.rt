@@ -18,18 +18,6 @@ impl Ranked {
             Ranked { first, second }
         }
     }
-
-    pub fn first(self) -> u16
-        ensures { λ r. ⌜ r ≡ self .first ⌝ }
-    {
-        self.first
-    }
-
-    pub fn second(self) -> u16
-        ensures { λ r. ⌜ r ≡ self .second ⌝ }
-    {
-        self.second
-    }
 }
 
 pub impl Price for Ranked as RankedPrice {
@@ -48,24 +36,17 @@ pub impl Price for Ranked as RankedPrice {
     ghost laws = { ranked-laws };
 
     fn zero() -> Ranked {
-        Ranked {
-            first: 0,
-            second: 0,
-        }
+        Ranked::new(0, 0)
     }
 
     fn top() -> Ranked {
-        Ranked {
-            first: u16::MAX,
-            second: 0,
-        }
+        Ranked::new(u16::MAX, 0)
     }
 
     fn add(self, other: Ranked) -> Ranked {
-        Ranked::new(
-            self.first.saturating_add(other.first),
-            self.second.saturating_add(other.second),
-        )
+        let first = self.first.saturating_add(other.first);
+        let second = self.second.saturating_add(other.second);
+        Ranked::new(first, second)
     }
 
     fn at_most(self, other: Ranked) -> bool {
@@ -73,17 +54,11 @@ pub impl Price for Ranked as RankedPrice {
     }
 
     fn access_price(weight: u8) -> Ranked {
-        Ranked {
-            first: weight as u16,
-            second: 0,
-        }
+        Ranked::new(weight as u16, 0)
     }
 
     fn move_price(weight: u8) -> Ranked {
-        Ranked {
-            first: 0,
-            second: weight as u16,
-        }
+        Ranked::new(0, weight as u16)
     }
 }
 

@@ -9,7 +9,7 @@ pub returns : need.returns
 returns c =
     elim (c .if-first-eq65535 .came) [
       | then-first-eq65535 w ↦ ranked-path _ _ (ap (λ p. p .0) (w .result-is) ∙ omega arith)
-          (ap (λ p. p .1 .0) (w .result-is) ∙ sym (second-at (c .args .first) (c .args .second) (omega arith)))
+          (ap (λ p. p .1 .0) (w .result-is) ∙ omega arith ∙ sym (second-at (c .args .first) (c .args .second) (omega arith)))
       | else-first-eq65535 w ↦ ranked-path _ _ (ap (λ p. p .0) (w .result-is) ∙ omega arith)
           (ap (λ p. p .1 .0) (w .result-is) ∙ omega arith ∙ sym (second-below (c .args .first) (c .args .second) (omega arith)))
     ]

@@ -1,6 +1,0 @@
-use native.Mathlib.Omega.{arith}
-use Rattle.prices.specs.RankedLaws.{ranked-path}
-use Rattle.prices.proofs.ranked_kind.RankedPrice.zero.Needs as need
-
-pub returns : need.returns
-returns c = ranked-path _ _ (omega arith) (omega arith)
