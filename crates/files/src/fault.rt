@@ -32,16 +32,16 @@ pub enum FileRefusal {
 pub impl From<FileFault> for FileRefusal as RefusalFromFile {
     ghost converts = { λ f r. r ≡ File f };
 
-    fn from(fault: FileFault) -> FileRefusal {
-        FileRefusal::File(fault)
+    fn from(of_file: FileFault) -> FileRefusal {
+        FileRefusal::File(of_file)
     }
 }
 
 pub impl From<RecordRefusal> for FileRefusal as RefusalFromRecord {
     ghost converts = { λ f r. r ≡ Record f };
 
-    fn from(refused: RecordRefusal) -> FileRefusal {
-        FileRefusal::Record(refused)
+    fn from(of_record: RecordRefusal) -> FileRefusal {
+        FileRefusal::Record(of_record)
     }
 }
 

@@ -16,6 +16,9 @@ use crate::reader::Reader;
 use sheets::Sheet;
 use sheets::SheetRefusal;
 
+// The longest file that is looked at, in bytes.
+pub const MAX_FILE: usize = 4096;
+
 fn declares(bytes: &[u8]) -> bool
     ensures { λ r. ⌜ r ≡ eqb (getD (now (bytes .entry)) 0 0) 1 ⌝ }
 {
@@ -50,7 +53,7 @@ fn locate(answer: Result<(), SheetRefusal>, offset: usize) -> Result<(), RecordR
 fn fit(length: usize) -> Result<(), FileFault>
     ensures { λ r. ⌜ r ≡ fitted length ⌝ }
 {
-    if length <= 4096 {
+    if length <= MAX_FILE {
         Ok(())
     } else {
         Err(FileFault {

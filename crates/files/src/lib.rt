@@ -11,6 +11,7 @@ pub use fault::FileRefusal;
 pub use fault::RecordRefusal;
 pub use fault::RefusalFromFile;
 pub use fault::RefusalFromRecord;
+pub use keying::MAX_FILE;
 pub use keying::key_in;
 pub use part::Part;
 pub use reader::Reader;

@@ -11,6 +11,7 @@ use prices::RankedDisplay;
 use prices::RankedPrice;
 use sheets::Access;
 use sheets::Sheet;
+use sheets::VARIABLES;
 use sheets::Width;
 use sheets::WidthDisplay;
 use std::io;
@@ -32,7 +33,7 @@ fn print_variable(rt: &impl Print, sheet: &Sheet, variable: u8, width: Width) ->
 fn print_variables(rt: &impl Print, sheet: &Sheet) -> io::Result<u8> {
     println!(rt, "variables:")?;
     let mut count = 0;
-    for variable in 0u8..12 {
+    for variable in 0..VARIABLES as u8 {
         if let Some(width) = sheet.width(variable) {
             print_variable(rt, sheet, variable, width)?;
             count += 1;

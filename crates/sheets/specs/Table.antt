@@ -68,6 +68,14 @@ abbrev pub rowOf : {A : Type 0} → ℕ → List (Row A) → Option (Row A)
 rowOf k [] = None
 rowOf k (x ∷ xs) = cond (eqb (x .kind) k) (Some x) (rowOf k xs)
 
+abbrev pub fieldsOr : {A : Type 0} → List Field → Option (Row A) → List Field
+fieldsOr other None = other
+fieldsOr other (Some x) = x .fields
+
+-- the fields of a record of this kind
+abbrev pub fieldsOf : ℕ → List Field
+fieldsOf k = fieldsOr (fieldsOr [] (rowOf k lineRows)) (rowOf k declarationRows)
+
 abbrev pub sizeOr : {A : Type 0} → Option ℕ → Option (Row A) → Option ℕ
 sizeOr other None = other
 sizeOr other (Some x) = Some (size x)

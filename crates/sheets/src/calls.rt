@@ -13,7 +13,9 @@ use crate::line::Width;
 use crate::record::declaration_of;
 use crate::record::line_of;
 use crate::record::width_of;
+use crate::sheet::MAX_LINES;
 use crate::sheet::Sheet;
+use crate::sheet::VARIABLES;
 
 impl Sheet {
     // A sheet with no declaration and no line.
@@ -21,8 +23,8 @@ impl Sheet {
         ensures { λ r. ⌜ contentOf r ≡ blank ⌝ }
     {
         Sheet {
-            widths: [None; 12],
-            lines: [Line::End; 64],
+            widths: [None; VARIABLES],
+            lines: [Line::End; MAX_LINES],
             count: 0,
         }
     }
@@ -45,10 +47,10 @@ impl Sheet {
         ensures rule { λ _. ⌜ Ruled lineRows (contentOf (now (self .entry)) .widths) (now (bytes .entry)) (lineOf (contentOf (now (self .entry)) .widths) (now (bytes .entry))) ⌝ }
     {
         let line = line_of(&self.widths, bytes)?;
-        if self.count == 64 {
+        if self.count == MAX_LINES {
             return Err(SheetRefusal::Sheet(SheetFault {
                 cause: Cause::SheetFull,
-                place: 64,
+                place: MAX_LINES as u8,
             }));
         }
         self.lines[self.count] = line;

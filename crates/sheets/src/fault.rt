@@ -31,8 +31,8 @@ pub enum SheetRefusal {
 pub impl From<SheetFault> for SheetRefusal as RefusalFromSheet {
     ghost converts = { λ f r. r ≡ Sheet f };
 
-    fn from(fault: SheetFault) -> SheetRefusal {
-        SheetRefusal::Sheet(fault)
+    fn from(by_sheet: SheetFault) -> SheetRefusal {
+        SheetRefusal::Sheet(by_sheet)
     }
 }
 

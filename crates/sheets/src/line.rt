@@ -14,48 +14,17 @@ pub struct Declaration {
     pub width: Width,
 }
 
-// One line. Variables are 0 to 11, ports 0 to 7, targets 0 to 63 and weights 1 to 255.
+// One line, with the bytes of its record by their letters in the table of records: it writes d, reads s, a and b,
+// and goes to line t; w is its weight.
 #[derive(Clone, Copy)]
 pub enum Line {
-    Input {
-        dest: u8,
-        port: u8,
-        weight: u8,
-    },
-    Output {
-        source: u8,
-        port: u8,
-        weight: u8,
-    },
-    Copy {
-        dest: u8,
-        source: u8,
-        weight: u8,
-    },
-    Add {
-        dest: u8,
-        left: u8,
-        right: u8,
-        weight: u8,
-    },
-    Multiply {
-        dest: u8,
-        left: u8,
-        right: u8,
-        weight: u8,
-    },
-    UpperHalf {
-        dest: u8,
-        source: u8,
-        weight: u8,
-    },
-    GoTo {
-        target: u8,
-    },
-    GoToIfZero {
-        source: u8,
-        target: u8,
-        weight: u8,
-    },
+    Input { d: u8, port: u8, w: u8 },
+    Output { s: u8, port: u8, w: u8 },
+    Copy { d: u8, s: u8, w: u8 },
+    Add { d: u8, a: u8, b: u8, w: u8 },
+    Multiply { d: u8, a: u8, b: u8, w: u8 },
+    UpperHalf { d: u8, s: u8, w: u8 },
+    GoTo { t: u8 },
+    GoToIfZero { s: u8, t: u8, w: u8 },
     End,
 }

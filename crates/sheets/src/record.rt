@@ -1,8 +1,8 @@
 // Records taken apart: what a record says, or why it is refused.
 ghost use mathlib.Core.Path.{_≡_};
 ghost use Prim.Native.Nat.{_+_, _≤_};
-ghost use lib.ListN.{length};
-ghost use Rattle.sheets.specs.Table.{lengthOf, widthCoded};
+ghost use lib.ListN.{length, getD};
+ghost use Rattle.sheets.specs.Table.{lengthOf, fieldsOf, widthCoded};
 ghost use Rattle.sheets.specs.Records.{range, within, declaredSo, sameWidth, asWanted, ofWidth, widthOf, passes, causeOf, fault, firstFault, unless, tested, declarationOf, lineOf};
 ghost use Rattle.std.specs.Vec.{made};
 ghost use Rattle.std.specs.declared.result.Result.the-variants.{Ok, Err};
@@ -23,6 +23,12 @@ const ANY_WIDTH: Field = Field::Variable(Wanted::Any);
 
 const LIKE_FIRST: Field = Field::Variable(Wanted::LikeFirst);
 
+const PORT: Field = Field::Port;
+
+const TARGET: Field = Field::Target;
+
+const WEIGHT: Field = Field::Weight;
+
 // The length of a record of this kind, or none where there is no such kind.
 pub fn record_length(kind: u8) -> Option<usize>
     ensures { λ r. ⌜ r ≡ lengthOf kind ⌝ }
@@ -34,6 +40,23 @@ pub fn record_length(kind: u8) -> Option<usize>
         0x16 => Some(2),
         0x18 => Some(1),
         _ => None,
+    }
+}
+
+// What the bytes of a record's body stand for, by its kind.
+fn fields_of(kind: u8) -> &'static [Field]
+    ensures { λ r. ⌜ now r ≡ fieldsOf kind ⌝ }
+{
+    match kind {
+        0x01 => &[Field::Declares, Field::WidthCode],
+        0x10 | 0x11 => &[WORD, Field::Port, Field::Weight],
+        0x12 => &[ANY_WIDTH, LIKE_FIRST, Field::Weight],
+        0x13 => &[ANY_WIDTH, LIKE_FIRST, LIKE_FIRST, Field::Weight],
+        0x14 => &[WIDE, WORD, WORD, Field::Weight],
+        0x15 => &[WORD, WIDE, Field::Weight],
+        0x16 => &[Field::Target],
+        0x17 => &[WORD, Field::Target, Field::Weight],
+        _ => &[],
     }
 }
 
@@ -142,15 +165,11 @@ fn test_all(
 }
 
 // What a record says, unless a byte of its body fails: first by its range, then by the declarations, then by the widths.
-fn checked<A: Copy>(
-    widths: &[Option<Width>],
-    fields: &[Field],
-    bytes: &[u8],
-    says: A,
-) -> Result<A, SheetFault>
-    requires { ⌜ length (now bytes) ≡ length (now fields) + 1 ⌝ ∗ ⌜ length (now bytes) ≤ 5 ⌝ }
-    ensures { λ r. ⌜ r ≡ tested (now (widths .entry)) (now (fields .entry)) (now (bytes .entry)) says ⌝ }
+fn checked<A: Copy>(widths: &[Option<Width>], bytes: &[u8], says: A) -> Result<A, SheetFault>
+    requires { ⌜ length (now bytes) ≡ length (fieldsOf (getD (now bytes) 0 0)) + 1 ⌝ ∗ ⌜ length (now bytes) ≤ 5 ⌝ }
+    ensures { λ r. ⌜ r ≡ tested (now (widths .entry)) (fieldsOf (getD (now (bytes .entry)) 0 0)) (now (bytes .entry)) says ⌝ }
 {
+    let fields = fields_of(bytes[0]);
     test_all(Test::InRange, widths, fields, bytes)?;
     test_all(Test::Declared, widths, fields, bytes)?;
     test_all(Test::OfWidth, widths, fields, bytes)?;
@@ -181,12 +200,7 @@ pub(crate) fn declaration_of(
         [] => refused(Cause::UnknownKind, 0),
         [0x01, variable, code] => {
             let width = width_coded(code);
-            checked(
-                widths,
-                &[Field::Declares, Field::WidthCode],
-                bytes,
-                Declaration { variable, width },
-            )
+            checked(widths, bytes, Declaration { variable, width })
         }
         [0x01, ..] => refused(Cause::WrongLength, 3),
         [0x00, ..] => refused(Cause::UnknownKind, 0),
@@ -200,89 +214,14 @@ pub(crate) fn line_of(widths: &[Option<Width>], bytes: &[u8]) -> Result<Line, Sh
 {
     match *bytes {
         [] => refused(Cause::UnknownKind, 0),
-        [0x10, dest, port, weight] => {
-            checked(
-                widths,
-                &[WORD, Field::Port, Field::Weight],
-                bytes,
-                Line::Input { dest, port, weight },
-            )
-        }
-        [0x11, source, port, weight] => {
-            checked(
-                widths,
-                &[WORD, Field::Port, Field::Weight],
-                bytes,
-                Line::Output {
-                    source,
-                    port,
-                    weight,
-                },
-            )
-        }
-        [0x12, dest, source, weight] => {
-            checked(
-                widths,
-                &[ANY_WIDTH, LIKE_FIRST, Field::Weight],
-                bytes,
-                Line::Copy {
-                    dest,
-                    source,
-                    weight,
-                },
-            )
-        }
-        [0x13, dest, left, right, weight] => {
-            checked(
-                widths,
-                &[ANY_WIDTH, LIKE_FIRST, LIKE_FIRST, Field::Weight],
-                bytes,
-                Line::Add {
-                    dest,
-                    left,
-                    right,
-                    weight,
-                },
-            )
-        }
-        [0x14, dest, left, right, weight] => {
-            checked(
-                widths,
-                &[WIDE, WORD, WORD, Field::Weight],
-                bytes,
-                Line::Multiply {
-                    dest,
-                    left,
-                    right,
-                    weight,
-                },
-            )
-        }
-        [0x15, dest, source, weight] => {
-            checked(
-                widths,
-                &[WORD, WIDE, Field::Weight],
-                bytes,
-                Line::UpperHalf {
-                    dest,
-                    source,
-                    weight,
-                },
-            )
-        }
-        [0x16, target] => checked(widths, &[Field::Target], bytes, Line::GoTo { target }),
-        [0x17, source, target, weight] => {
-            checked(
-                widths,
-                &[WORD, Field::Target, Field::Weight],
-                bytes,
-                Line::GoToIfZero {
-                    source,
-                    target,
-                    weight,
-                },
-            )
-        }
+        [0x10, d, port, w] => checked(widths, bytes, Line::Input { d, port, w }),
+        [0x11, s, port, w] => checked(widths, bytes, Line::Output { s, port, w }),
+        [0x12, d, s, w] => checked(widths, bytes, Line::Copy { d, s, w }),
+        [0x13, d, a, b, w] => checked(widths, bytes, Line::Add { d, a, b, w }),
+        [0x14, d, a, b, w] => checked(widths, bytes, Line::Multiply { d, a, b, w }),
+        [0x15, d, s, w] => checked(widths, bytes, Line::UpperHalf { d, s, w }),
+        [0x16, t] => checked(widths, bytes, Line::GoTo { t }),
+        [0x17, s, t, w] => checked(widths, bytes, Line::GoToIfZero { s, t, w }),
         [0x18] => Ok(Line::End),
         [0x10 | 0x11 | 0x12 | 0x15 | 0x17, ..] => refused(Cause::WrongLength, 4),
         [0x13 | 0x14, ..] => refused(Cause::WrongLength, 5),

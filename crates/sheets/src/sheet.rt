@@ -5,11 +5,15 @@ ghost use lib.ListN.{length};
 use crate::line::Line;
 use crate::line::Width;
 
+pub const MAX_LINES: usize = 64;
+
+pub const VARIABLES: usize = 12;
+
 #[derive(Drop)]
 pub struct Sheet {
-    pub(crate) widths: [Option<Width>; 12],
+    pub(crate) widths: [Option<Width>; VARIABLES],
     // The lines that stand are the first `count`.
-    pub(crate) lines: [Line; 64],
+    pub(crate) lines: [Line; MAX_LINES],
     pub(crate) count: usize,
     ghost few: { count ≤ 64 },
     ghost room: { length lines ≡ 64 },

@@ -3,7 +3,7 @@ ghost use mathlib.Core.Path.{_≡_};
 ghost use mathlib.Core.List.{List, [], _∷_};
 ghost use Prim.Native.Nat.{ℕ, _+_, _*_, _≤_};
 ghost use lib.ListN.{length};
-ghost use Rattle.sheets.specs.Lines.{weight};
+ghost use Rattle.sheets.specs.Lines.{reads, writes, weight};
 ghost use Rattle.sheets.specs.Usage.{named, times, tallyOf};
 ghost use Rattle.sheets.specs.Contents.{contentOf};
 ghost use Rattle.sheets.specs.Placement.{linePrice, price, everythingInMemory};
@@ -17,10 +17,10 @@ fn weight_of(line: Line) -> u8
     ensures { λ r. ⌜ r ≡ weight line ⌝ }
 {
     match line {
-        Line::Input { weight, .. } | Line::Output { weight, .. } => weight,
-        Line::Copy { weight, .. } | Line::UpperHalf { weight, .. } => weight,
-        Line::Add { weight, .. } | Line::Multiply { weight, .. } => weight,
-        Line::GoToIfZero { weight, .. } => weight,
+        Line::Input { w, .. } | Line::Output { w, .. } => w,
+        Line::Copy { w, .. } | Line::UpperHalf { w, .. } => w,
+        Line::Add { w, .. } | Line::Multiply { w, .. } => w,
+        Line::GoToIfZero { w, .. } => w,
         Line::GoTo { .. } | Line::End => 0,
     }
 }
@@ -31,30 +31,40 @@ fn once(variable: u8, other: u8) -> u16
     if variable == other { 1 } else { 0 }
 }
 
+fn times_read(line: Line, variable: u8) -> u16
+    ensures value { λ r. ⌜ r ≡ times variable (reads line) ⌝ }
+    ensures low { λ r. ⌜ r ≤ 2 ⌝ }
+{
+    match line {
+        Line::Add { a, b, .. } | Line::Multiply { a, b, .. } => {
+            once(variable, a) + once(variable, b)
+        }
+        Line::Output { s, .. } | Line::Copy { s, .. } => once(variable, s),
+        Line::UpperHalf { s, .. } | Line::GoToIfZero { s, .. } => once(variable, s),
+        Line::Input { .. } | Line::GoTo { .. } | Line::End => 0,
+    }
+}
+
+fn times_written(line: Line, variable: u8) -> u16
+    ensures value { λ r. ⌜ r ≡ times variable (writes line) ⌝ }
+    ensures low { λ r. ⌜ r ≤ 2 ⌝ }
+{
+    match line {
+        Line::Input { d, .. } | Line::Copy { d, .. } => once(variable, d),
+        Line::Add { d, .. } | Line::Multiply { d, .. } => once(variable, d),
+        Line::UpperHalf { d, .. } => once(variable, d),
+        Line::Output { .. } | Line::GoTo { .. } | Line::GoToIfZero { .. } | Line::End => 0,
+    }
+}
+
 // How often a line reads, or writes, a variable.
 fn times_in(line: Line, access: Access, variable: u8) -> u16
     ensures value { λ r. ⌜ r ≡ times variable (named access line) ⌝ }
     ensures low { λ r. ⌜ r ≤ 2 ⌝ }
 {
-    match (access, line) {
-        (Access::Read, Line::Add { left, right, .. } | Line::Multiply { left, right, .. }) => {
-            once(variable, left) + once(variable, right)
-        }
-        (Access::Read, Line::Output { source, .. } | Line::Copy { source, .. }) => once(
-            variable,
-            source,
-        ),
-        (Access::Read, Line::UpperHalf { source, .. } | Line::GoToIfZero { source, .. }) => once(
-            variable,
-            source,
-        ),
-        (Access::Write, Line::Input { dest, .. } | Line::Copy { dest, .. }) => once(variable, dest),
-        (Access::Write, Line::Add { dest, .. } | Line::Multiply { dest, .. }) => once(
-            variable,
-            dest,
-        ),
-        (Access::Write, Line::UpperHalf { dest, .. }) => once(variable, dest),
-        _ => 0,
+    match access {
+        Access::Read => times_read(line, variable),
+        Access::Write => times_written(line, variable),
     }
 }
 

@@ -24,48 +24,14 @@ pub impl fmt::Display for Line as LineDisplay {
 
     fn fmt<W: fmt::Write>(&self, f: &mut fmt::Formatter<W>) -> fmt::Result {
         match *self {
-            Line::Input { dest, port, weight } => write!(
-                f,
-                "v{dest} = input {port}, weight {weight}"
-            ),
-            Line::Output {
-                source,
-                port,
-                weight,
-            } => write!(f, "output {port} = v{source}, weight {weight}"),
-            Line::Copy {
-                dest,
-                source,
-                weight,
-            } => write!(f, "v{dest} = v{source}, weight {weight}"),
-            Line::Add {
-                dest,
-                left,
-                right,
-                weight,
-            } => { write!(f, "v{dest} = v{left} + v{right}, weight {weight}") }
-            Line::Multiply {
-                dest,
-                left,
-                right,
-                weight,
-            } => { write!(f, "v{dest} = v{left} * v{right}, weight {weight}") }
-            Line::UpperHalf {
-                dest,
-                source,
-                weight,
-            } => { write!(f, "v{dest} = upper half of v{source}, weight {weight}") }
-            Line::GoTo { target } => write!(f, "go to line {target}"),
-            Line::GoToIfZero {
-                source,
-                target,
-                weight,
-            } => {
-                write!(
-                    f,
-                    "go to line {target} if v{source} is zero, weight {weight}"
-                )
-            }
+            Line::Input { d, port, w } => write!(f, "v{d} = input {port}, weight {w}"),
+            Line::Output { s, port, w } => write!(f, "output {port} = v{s}, weight {w}"),
+            Line::Copy { d, s, w } => write!(f, "v{d} = v{s}, weight {w}"),
+            Line::Add { d, a, b, w } => write!(f, "v{d} = v{a} + v{b}, weight {w}"),
+            Line::Multiply { d, a, b, w } => write!(f, "v{d} = v{a} * v{b}, weight {w}"),
+            Line::UpperHalf { d, s, w } => write!(f, "v{d} = upper half of v{s}, weight {w}"),
+            Line::GoTo { t } => write!(f, "go to line {t}"),
+            Line::GoToIfZero { s, t, w } => write!(f, "go to line {t} if v{s} is zero, weight {w}"),
             Line::End => write!(f, "end"),
         }
     }

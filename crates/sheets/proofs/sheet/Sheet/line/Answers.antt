@@ -12,8 +12,8 @@ use Rattle.sheets.proofs.sheet.Sheet.line.Needs as need
 pub returns-in-Break-line : need.returns-in-Break-line
 returns-in-Break-line c = record { answer = search needs; sheet = search needs; rule = ruled lineRows _ _ refl }
 
-pub returns-then-self-eq64 : need.returns-then-self-eq64
-returns-then-self-eq64 c =
+pub returns-then-self-eq-MAX-LINES : need.returns-then-self-eq-MAX-LINES
+returns-then-self-eq-MAX-LINES c =
     let s = c .args .self .now in
     let e : lineOf (s .widths) (c .args .bytes .now) ≡ Ok (c .in-Continue-line .line) = search needs in
     let f = line-full (s .widths) (s .lines) (s .count) (s .room) (s .few) (c .args .bytes .now) _ (omega arith) e in
