@@ -52,7 +52,7 @@ fn print_prices(rt: &impl Print, sheet: &Sheet) -> io::Result<()> {
 }
 
 // Keys the file into a new sheet, and prints what came of it.
-pub fn report(rt: &impl Print, file: &[u8]) -> io::Result<()> {
+pub(crate) fn report(rt: &impl Print, file: &[u8]) -> io::Result<()> {
     let mut sheet = Sheet::new();
     let answer = key_in(file, &mut sheet);
     println!(rt, "records:")?;
