@@ -39,7 +39,7 @@ cut-enough (suc n) (suc m) i (k ∷ bs) p q =
     ap (λ (ps : List Piece). piece i (take (sizeOf k) (k ∷ bs)) ∷ ps)
     (cut-enough n m (i + sizeOf k) (drop (sizeOf k) (k ∷ bs)) (omega arith) (omega arith))
 
-cut-step : (n i : ℕ) (bs : List ℕ) → 0 < length bs → length bs ≤ n
+pub cut-step : (n i : ℕ) (bs : List ℕ) → 0 < length bs → length bs ≤ n
     → cutFrom n i bs ≡ piece i (take (sizeOf (getD bs 0 0)) bs) ∷ cutFrom (length bs - sizeOf (getD bs 0 0)) (i + sizeOf (getD bs 0 0)) (drop (sizeOf (getD bs 0 0)) bs)
 unfolding cutFrom
 cut-step n i [] p q = absurd (omega arith)

@@ -21,6 +21,11 @@ pub data Cuts : ℕ → List ℕ → List Piece → Type 0 where
       → Cuts (i + firstSize bs) (drop (firstSize bs) bs) ps → Cuts i bs (piece i (take (firstSize bs) bs) ∷ ps)
   cut-short : {i : ℕ} {bs : List ℕ} → 0 < length bs → length bs < firstSize bs → Cuts i bs (piece i bs ∷ [])
 
+-- a file is cut into these records, and can be cut into no others
+pub record CutByKind (f : List ℕ) (ps : List Piece) : Type 0 where
+  pub holds : Cuts 0 f ps
+  pub alone : (qs : List Piece) → Cuts 0 f qs → qs ≡ ps
+
 -- a sheet accepts these records in order, and what stands goes from the one content to the other
 pub data Accepts : Content → List Piece → Content → Type 0 where
   none-given : {c : Content} → Accepts c [] c
@@ -31,3 +36,8 @@ pub data FirstFault (c : Content) (ps : List Piece) : Keyed → Type 0 where
   no-fault : {d : Content} → Accepts c ps d → FirstFault c ps (keeps d None)
   fault-at : {d : Content} (before after : List Piece) (p : Piece) (f : SheetFault) → ps ≡ before ++ (p ∷ after)
       → Accepts c before d → entering (p .bytes) d ≡ Err f → FirstFault c ps (keeps d (Some (refusedAt (p .at) f)))
+
+-- keying these records in leaves this, and nothing else
+pub record KeyedByRule (c : Content) (ps : List Piece) (k : Keyed) : Type 0 where
+  pub holds : FirstFault c ps k
+  pub alone : (j : Keyed) → FirstFault c ps j → j ≡ k

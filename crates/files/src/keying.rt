@@ -5,7 +5,7 @@ ghost use lib.ListN.{getD};
 ghost use Rattle.sheets.specs.Contents.{contentOf, answered, left};
 ghost use Rattle.files.specs.Cut.{cut};
 ghost use Rattle.files.specs.Keyed.{entering, located, fitted, keyed, keyedRecords, answerOf};
-ghost use Rattle.files.specs.Rules.{FirstFault};
+ghost use Rattle.files.specs.Rules.{KeyedByRule};
 use crate::fault::FileCause;
 use crate::fault::FileFault;
 use crate::fault::FileRefusal;
@@ -67,7 +67,7 @@ fn fit(length: usize) -> Result<(), FileFault>
 pub fn key_in(file: &[u8], sheet: &mut Sheet) -> Result<(), FileRefusal>
     ensures answer { λ r. ⌜ r ≡ answerOf (keyed (contentOf (now (sheet .entry))) (now (file .entry)) .fault) ⌝ }
     ensures sheet { λ _. ⌜ contentOf (now (sheet .exit)) ≡ keyed (contentOf (now (sheet .entry))) (now (file .entry)) .content ⌝ }
-    ensures first { λ _. ⌜ FirstFault (contentOf (now (sheet .entry))) (cut (now (file .entry))) (keyedRecords (contentOf (now (sheet .entry))) (cut (now (file .entry)))) ⌝ }
+    ensures rule { λ _. ⌜ KeyedByRule (contentOf (now (sheet .entry))) (cut (now (file .entry))) (keyedRecords (contentOf (now (sheet .entry))) (cut (now (file .entry)))) ⌝ }
 {
     fit(file.len())?;
     let mut reader = Reader::new(file);

@@ -5,7 +5,7 @@ ghost use lib.ListN.{length};
 ghost use Rattle.std.specs.declared.option.Option.the-variants.{Some, None};
 ghost use Rattle.std.specs.Joined.{joined};
 ghost use Rattle.files.specs.Cut.{sizeOf, bytesOf, cut, leftOf, pieceOf};
-ghost use Rattle.files.specs.Rules.{Cuts};
+ghost use Rattle.files.specs.Rules.{CutByKind};
 use crate::part::Part;
 use sheets::record_length;
 
@@ -28,7 +28,7 @@ fn size_of(kind: u8) -> usize
 impl<'a> Reader<'a> {
     pub fn new(file: &'a [u8]) -> Reader<'a>
         ensures parts { λ r. ⌜ leftOf r ≡ cut (now (file .entry)) ⌝ }
-        ensures rule { λ _. ⌜ Cuts 0 (now (file .entry)) (cut (now (file .entry))) ⌝ }
+        ensures rule { λ _. ⌜ CutByKind (now (file .entry)) (cut (now (file .entry))) ⌝ }
         ensures whole { λ _. ⌜ joined bytesOf (cut (now (file .entry))) ≡ now (file .entry) ⌝ }
     {
         Reader { file, offset: 0 }

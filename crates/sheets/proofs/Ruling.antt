@@ -7,7 +7,7 @@ use Prim.Native.Nat.{ℕ, zero, suc, _+_, _<_, _≤_}
 use native.Mathlib.Omega.{arith}
 use lib.Dec.{eqb}
 use lib.ListN.{length, getD}
-use Rattle.std.proofs.shelf.Tests.{cases-bool, cond-both, both-ways, eqb-true, eqb-false, eq-eqb}
+use Rattle.std.proofs.shelf.Tests.{cases-bool, cond-both, both-ways, eqb-true, eqb-false, eq-eqb, ne-eqb, cases-order}
 use Rattle.std.specs.declared.option.Option.{Option}
 use Rattle.std.specs.declared.option.Option.the-variants.{Some, None}
 use Rattle.std.specs.declared.result.Result.{Result}
@@ -17,10 +17,11 @@ use Rattle.sheets.specs.declared.field.Field.{Field}
 use Rattle.sheets.specs.declared.field.Field.the-variants.{Port}
 use Rattle.sheets.specs.declared.field.Test.{Test}
 use Rattle.sheets.specs.declared.field.Test.the-variants.{InRange, Declared, OfWidth}
+use Rattle.sheets.specs.declared.fault.Cause.the-variants.{UnknownKind}
 use Rattle.sheets.specs.declared.fault.SheetFault.{SheetFault}
-use Rattle.sheets.specs.Table.{Row, size, rowOf}
+use Rattle.sheets.specs.Table.{Row, size, rowOf, declarationRows, lineRows}
 use Rattle.sheets.specs.Records.{passes, causeOf, fault, firstFault, unless, tested, judged, readAs}
-use Rattle.sheets.specs.Rules.{Listed, OfRow, Fails, Never, Lowest, PassedBefore, Ruled}
+use Rattle.sheets.specs.Rules.{Listed, OfRow, Fails, Never, Lowest, PassedBefore, Ruled, ByTheRule}
 
 -- # The row of a kind
 
@@ -144,5 +145,82 @@ module _ {A : Type 0} (rows : List (Row A)) (ws : List (Option Width)) (r : List
       (λ h. Ruled.wrong-length x q (eqb-false (length r) (size x) h))
 
   -- where no row has kind 0, which is what an empty record would read as
-  pub ruled : rowOf 0 rows ≡ None → Ruled rows ws r (readAs rows ws r)
+  ruled : rowOf 0 rows ≡ None → Ruled rows ws r (readAs rows ws r)
   ruled no-zero = by-row no-zero (rowOf (getD r 0 0) rows) refl
+
+-- # No other answer
+
+-- each kind has one row
+abbrev pub Apart : {A : Type 0} → List (Row A) → Type 0
+Apart [] = Unit {0}
+Apart (x ∷ xs) = (rowOf (x .kind) xs ≡ None) × Apart xs
+
+pub declaration-apart : Apart declarationRows
+declaration-apart = (refl, tt)
+
+pub line-apart : Apart lineRows
+line-apart = (refl, (refl, (refl, (refl, (refl, (refl, (refl, (refl, (refl, tt)))))))))
+
+row-there : {A : Type 0} (k : ℕ) (rows : List (Row A)) (x : Row A) → Apart rows → Listed x rows → x .kind ≡ k → rowOf k rows ≡ Some x
+row-there k [] x a l e = absurd l
+row-there k (y ∷ ys) x a l e = ⊎-elim
+    (λ q. let h : eqb (y .kind) k ≡ true = eq-eqb (y .kind) k (ap (λ (w : Row _). w .kind) (sym q) ∙ e) in rw h (ap Some (sym q)))
+    (λ q. ⊎-elim
+    (λ h. absurd (row-missing (y .kind) ys (a .0) x q (e ∙ sym (eqb-true (y .kind) k h))))
+    (λ h. rw h (row-there k ys x (a .1) q e))
+    (cases-bool (eqb (y .kind) k)))
+    l
+
+module _ (t : Test) (ws : List (Option Width)) (r : List ℕ) (xs : List Field) where
+  none-first : Never (Fails t ws xs r) → firstFault t ws 1 xs r ≡ None
+  none-first n = by-fault (firstFault t ws 1 xs r) refl
+    where
+      by-fault : (o : Option SheetFault) → firstFault t ws 1 xs r ≡ o → o ≡ None
+      by-fault None e = refl
+      by-fault (Some f) e = let q = first-some t ws r 1 xs f e in absurd (n (q .index) (record { inside = q .inside; failed = q .failed }))
+
+  lowest-first : (i : ℕ) → Lowest (Fails t ws xs r) i → firstFault t ws 1 xs r ≡ Some (fault (causeOf t (getD xs i Port)) (1 + i))
+  lowest-first i l = by-fault (firstFault t ws 1 xs r) refl
+    where
+      by-fault : (o : Option SheetFault) → firstFault t ws 1 xs r ≡ o → o ≡ Some (fault (causeOf t (getD xs i Port)) (1 + i))
+      by-fault None e = absurd (both-ways _ (l .holds .failed) (first-none t ws r 1 xs e i (l .holds .inside)))
+      by-fault (Some f) e =
+          let q = first-some t ws r 1 xs f e in
+          let same : q .index ≡ i = ⊎-elim
+          (λ h. h)
+          (⊎-elim
+          (λ h. absurd (l .none-below (q .index) h (record { inside = q .inside; failed = q .failed })))
+          (λ h. absurd (both-ways _ (l .holds .failed) (q .before i h))))
+          (cases-order (q .index) i) in
+          ap Some (q .is ∙ ap (λ (n : ℕ). fault (causeOf t (getD xs n Port)) (1 + n)) same)
+
+module _ {A : Type 0} (rows : List (Row A)) (no-zero : rowOf 0 rows ≡ None) (apart : Apart rows) (ws : List (Option Width)) (r : List ℕ) where
+  at-row : (x : Row A) → OfRow rows r x → readAs rows ws r ≡ judged ws r (Some x)
+  at-row x o = ap (judged ws r) (row-there (getD r 0 0) rows x apart (o .listed) (o .kind))
+
+  at-length : (x : Row A) → OfRow rows r x → length r ≡ size x → readAs rows ws r ≡ tested ws (x .fields) r (x .says (λ i. getD r i 0))
+  at-length x o l = at-row x o ∙ rw (eq-eqb (length r) (size x) l)
+
+  at-byte : (x : Row A) (a : A) (t : Test) → PassedBefore t ws (x .fields) r → (i : ℕ) → Lowest (Fails t ws (x .fields) r) i
+      → tested ws (x .fields) r a ≡ Err (fault (causeOf t (getD (x .fields) i Port)) (1 + i))
+  at-byte x a InRange before i l = rw (lowest-first InRange ws r (x .fields) i l)
+  at-byte x a Declared before i l = rw (none-first InRange ws r (x .fields) before, lowest-first Declared ws r (x .fields) i l)
+  at-byte x a OfWidth before i l =
+      rw (none-first InRange ws r (x .fields) (before .0), none-first Declared ws r (x .fields) (before .1), lowest-first OfWidth ws r (x .fields) i l)
+
+  no-row : ((x : Row A) → OfRow rows r x → ⊥) → (o : Option (Row A)) → rowOf (getD r 0 0) rows ≡ o → Err (fault UnknownKind 0) ≡ judged ws r o
+  no-row n None e = refl
+  no-row n (Some x) e =
+      let f = row-found (getD r 0 0) rows x e in
+      absurd (n x (record { listed = f .0; there = has-byte rows r no-zero x e; kind = f .1 }))
+
+  alone : (b : Result A SheetFault) → Ruled rows ws r b → b ≡ readAs rows ws r
+  alone b (Ruled.unknown-kind n) = no-row n (rowOf (getD r 0 0) rows) refl
+  alone b (Ruled.wrong-length x o n) = sym (at-row x o ∙ rw (ne-eqb (length r) (size x) n))
+  alone b (Ruled.refused-byte x o len t before i l) = sym (at-length x o len ∙ at-byte x _ t before i l)
+  alone b (Ruled.accepted x o len n) =
+      sym (at-length x o len
+      ∙ rw (none-first InRange ws r (x .fields) (n InRange), none-first Declared ws r (x .fields) (n Declared), none-first OfWidth ws r (x .fields) (n OfWidth)))
+
+  pub by-the-rule : ByTheRule rows ws r (readAs rows ws r)
+  by-the-rule = record { holds = ruled rows ws r no-zero; alone = alone }

@@ -57,3 +57,8 @@ pub data Ruled {A : Type 0} (rows : List (Row A)) (ws : List (Option Width)) (r 
   accepted : (x : Row A) → OfRow rows r x → length r ≡ size x
       → ((t : Test) → Never (Fails t ws (x .fields) r))
       → Ruled rows ws r (Ok (x .says (λ i. getD r i 0)))
+
+-- the rule allows this answer, and no other
+pub record ByTheRule {A : Type 0} (rows : List (Row A)) (ws : List (Option Width)) (r : List ℕ) (a : Result A SheetFault) : Type 0 where
+  pub holds : Ruled rows ws r a
+  pub alone : (b : Result A SheetFault) → Ruled rows ws r b → b ≡ a

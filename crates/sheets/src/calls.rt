@@ -1,7 +1,7 @@
 // The calls on a sheet.
 ghost use mathlib.Core.Path.{_≡_};
 ghost use Rattle.sheets.specs.Records.{widthOf, declarationOf, lineOf};
-ghost use Rattle.sheets.specs.Rules.{Ruled};
+ghost use Rattle.sheets.specs.Rules.{ByTheRule};
 ghost use Rattle.sheets.specs.Table.{declarationRows, lineRows};
 ghost use Rattle.sheets.specs.Contents.{contentOf, blank, declaring, lining, withdrawing, answered, left};
 use crate::fault::Cause;
@@ -33,7 +33,7 @@ impl Sheet {
     pub fn declare(&mut self, bytes: &[u8]) -> Result<(), SheetRefusal>
         ensures answer { λ r. ⌜ r ≡ answered (declaring (now (bytes .entry)) (contentOf (now (self .entry)))) ⌝ }
         ensures sheet { λ _. ⌜ contentOf (now (self .exit)) ≡ left (declaring (now (bytes .entry)) (contentOf (now (self .entry)))) (contentOf (now (self .entry))) ⌝ }
-        ensures rule { λ _. ⌜ Ruled declarationRows (contentOf (now (self .entry)) .widths) (now (bytes .entry)) (declarationOf (contentOf (now (self .entry)) .widths) (now (bytes .entry))) ⌝ }
+        ensures rule { λ _. ⌜ ByTheRule declarationRows (contentOf (now (self .entry)) .widths) (now (bytes .entry)) (declarationOf (contentOf (now (self .entry)) .widths) (now (bytes .entry))) ⌝ }
     {
         let declaration = declaration_of(&self.widths, bytes)?;
         self.widths[declaration.variable as usize] = Some(declaration.width);
@@ -44,7 +44,7 @@ impl Sheet {
     pub fn line(&mut self, bytes: &[u8]) -> Result<(), SheetRefusal>
         ensures answer { λ r. ⌜ r ≡ answered (lining (now (bytes .entry)) (contentOf (now (self .entry)))) ⌝ }
         ensures sheet { λ _. ⌜ contentOf (now (self .exit)) ≡ left (lining (now (bytes .entry)) (contentOf (now (self .entry)))) (contentOf (now (self .entry))) ⌝ }
-        ensures rule { λ _. ⌜ Ruled lineRows (contentOf (now (self .entry)) .widths) (now (bytes .entry)) (lineOf (contentOf (now (self .entry)) .widths) (now (bytes .entry))) ⌝ }
+        ensures rule { λ _. ⌜ ByTheRule lineRows (contentOf (now (self .entry)) .widths) (now (bytes .entry)) (lineOf (contentOf (now (self .entry)) .widths) (now (bytes .entry))) ⌝ }
     {
         let line = line_of(&self.widths, bytes)?;
         if self.count == MAX_LINES {
