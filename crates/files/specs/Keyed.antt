@@ -12,7 +12,6 @@ use Rattle.sheets.specs.declared.fault.SheetFault.{SheetFault}
 use Rattle.sheets.specs.declared.fault.SheetRefusal.{SheetRefusal}
 use Rattle.sheets.specs.declared.fault.SheetRefusal.the-variants.{Sheet}
 use Rattle.sheets.specs.Contents.{Content, declaring, lining}
-use Rattle.files.specs.declared.fault.FileCause.{FileCause}
 use Rattle.files.specs.declared.fault.FileCause.the-variants.{TooLong}
 use Rattle.files.specs.declared.fault.FileFault.{FileFault}
 use Rattle.files.specs.declared.fault.RecordRefusal.{RecordRefusal}

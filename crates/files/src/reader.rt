@@ -1,7 +1,6 @@
 // The reader: steps through a file, and hands out each record as a part of it.
 ghost use mathlib.Core.Path.{_≡_};
 ghost use mathlib.Core.List.{[], _∷_};
-ghost use lib.ListN.{length};
 ghost use Rattle.std.specs.declared.option.Option.the-variants.{Some, None};
 ghost use Rattle.std.specs.Joined.{joined};
 ghost use Rattle.files.specs.Cut.{sizeOf, bytesOf, cut, leftOf, pieceOf};

@@ -1,6 +1,5 @@
 -- The plain kind keeps the laws of prices.
 use mathlib.Core.Path.{_≡_}
-use mathlib.Core.Bool.{Bool, true, false}
 use mathlib.Core.HLevel.{isProp→PathP}
 use Prim.Native.Nat.{_≤_}
 use native.Mathlib.Omega.{arith}

@@ -35,7 +35,12 @@ fn print_bytes(rt: &impl Print, part: Part) -> io::Result<()> {
 }
 
 // Prints the records before the offset `end`, which were accepted, and the bytes of the one there, if there is one.
-pub(crate) fn print_records(rt: &impl Print, file: &[u8], sheet: &Sheet, end: usize) -> io::Result<()> {
+pub(crate) fn print_records(
+    rt: &impl Print,
+    file: &[u8],
+    sheet: &Sheet,
+    end: usize,
+) -> io::Result<()> {
     let mut reader = Reader::new(file);
     let mut number = 0;
     while let Some(part) = reader.next_record() {

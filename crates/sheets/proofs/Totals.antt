@@ -2,7 +2,6 @@
 use mathlib.Core.Path.{_≡_, refl, sym, ap, _∙_}
 use mathlib.Core.List.{List}
 use Prim.Native.Nat.{ℕ, _+_, _*_, _<_, _≤_}
-use native.Mathlib.Omega.{arith}
 use lib.ListN.{getD, drop, length}
 use Rattle.std.proofs.shelf.Lists.{drop-more, drop-all}
 use Rattle.prices.specs.declared.price.Price.{Ghosts as Kind}

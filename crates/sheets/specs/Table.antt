@@ -13,7 +13,6 @@ use Rattle.sheets.specs.declared.line.Line.{Line}
 use Rattle.sheets.specs.declared.line.Line.the-variants.{Input, Output, Copy, Add, Multiply, UpperHalf, GoTo, GoToIfZero, End}
 use Rattle.sheets.specs.declared.field.Field.{Field}
 use Rattle.sheets.specs.declared.field.Field.the-variants.{Declares, WidthCode, Variable, Port, Target, Weight}
-use Rattle.sheets.specs.declared.field.Wanted.{Wanted}
 use Rattle.sheets.specs.declared.field.Wanted.the-variants.{Exactly, Any, LikeFirst}
 
 -- a kind, the fields of its body in order, and what the record says, given its bytes by their offsets

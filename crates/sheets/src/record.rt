@@ -3,7 +3,7 @@ ghost use mathlib.Core.Path.{_≡_};
 ghost use Prim.Native.Nat.{_+_, _≤_};
 ghost use lib.ListN.{length, getD};
 ghost use Rattle.sheets.specs.Table.{lengthOf, fieldsOf, widthCoded};
-ghost use Rattle.sheets.specs.Records.{range, within, declaredSo, sameWidth, asWanted, ofWidth, widthOf, passes, causeOf, fault, firstFault, unless, tested, declarationOf, lineOf};
+ghost use Rattle.sheets.specs.Records.{range, within, declaredSo, sameWidth, ofWidth, widthOf, passes, causeOf, fault, firstFault, unless, tested, declarationOf, lineOf};
 ghost use Rattle.std.specs.Vec.{made};
 ghost use Rattle.std.specs.declared.result.Result.the-variants.{Ok, Err};
 use crate::fault::Cause;
@@ -22,12 +22,6 @@ const WIDE: Field = Field::Variable(Wanted::Exactly(Width::Wide));
 const ANY_WIDTH: Field = Field::Variable(Wanted::Any);
 
 const LIKE_FIRST: Field = Field::Variable(Wanted::LikeFirst);
-
-const PORT: Field = Field::Port;
-
-const TARGET: Field = Field::Target;
-
-const WEIGHT: Field = Field::Weight;
 
 // The length of a record of this kind, or none where there is no such kind.
 pub fn record_length(kind: u8) -> Option<usize>

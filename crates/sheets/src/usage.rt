@@ -1,7 +1,7 @@
 // How often lines read and write a variable, and what they cost with everything in memory.
 ghost use mathlib.Core.Path.{_≡_};
-ghost use mathlib.Core.List.{List, [], _∷_};
-ghost use Prim.Native.Nat.{ℕ, _+_, _*_, _≤_};
+ghost use mathlib.Core.List.{[], _∷_};
+ghost use Prim.Native.Nat.{_+_, _*_, _≤_};
 ghost use lib.ListN.{length};
 ghost use Rattle.sheets.specs.Lines.{reads, writes, weight};
 ghost use Rattle.sheets.specs.Usage.{named, times, tallyOf};

@@ -1,8 +1,7 @@
-use mathlib.Core.Path.{_≡_, refl, sym, subst, _∙_}
+use mathlib.Core.Path.{_≡_, refl, _∙_}
 use mathlib.Core.List.{[]}
 use native.Mathlib.Omega.{arith}
 use borrow.Author.Tests.{ltb-true}
-use borrow.Author.Needs.{needs}
 use Rattle.std.proofs.shelf.Lists.{nil-from-length}
 use Rattle.sheets.proofs.record.declaration_of.Needs as need
 

@@ -1,4 +1,4 @@
-use mathlib.Core.Path.{_≡_, refl, _∙_}
+use mathlib.Core.Path.{refl, _∙_}
 use Rattle.std.proofs.shelf.Lists.{drop-all}
 use Rattle.sheets.proofs.Walk.{fault-more, fault-here}
 use Rattle.sheets.proofs.record.test_all.Needs as need

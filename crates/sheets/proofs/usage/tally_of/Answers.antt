@@ -1,10 +1,8 @@
-use mathlib.Core.Path.{_≡_, refl, sym, ap, ap₂, _∙_}
-use Prim.Native.Nat.{ℕ, _+_, _*_, _≤_}
+use mathlib.Core.Path.{_≡_, ap₂}
+use Prim.Native.Nat.{ℕ, _*_, _≤_}
 use native.Mathlib.Omega.{arith}
 use native.Mathlib.Nat.{mul-le-mul}
-use lib.ListN.{drop, length}
 use Rattle.std.proofs.shelf.Lists.{at-drop-all}
-use Rattle.sheets.specs.declared.access.Tally.{Tally}
 use Rattle.sheets.specs.Usage.{countIn, weightIn}
 use Rattle.sheets.proofs.Totals.{count-more, weight-more}
 use Rattle.sheets.proofs.usage.tally_of.Needs as need

@@ -1,8 +1,5 @@
-use mathlib.Core.Path.{_≡_}
-use mathlib.Core.List.{[]}
 use native.Mathlib.Omega.{arith}
 use Rattle.std.proofs.shelf.Lists.{drop-all}
-use Rattle.files.specs.Cut.{leftOf}
 use Rattle.files.proofs.Cuts.{cut-none, cut-whole, cut-short}
 use Rattle.files.proofs.reader.Reader.next_record.Needs as need
 use Rattle.files.proofs.reader.Reader.next_record.Needs.{then-self-offset, else-self-offset}

@@ -1,4 +1,4 @@
-use mathlib.Core.Path.{_≡_, refl, sym, ap, ap₂, _∙_}
+use mathlib.Core.Path.{sym, ap, _∙_}
 use Rattle.sheets.specs.Placement.{price, everythingInMemory}
 use Rattle.sheets.proofs.Totals.{price-more, price-all}
 use Rattle.sheets.proofs.sheet.Sheet.price_in_memory.Needs as need
