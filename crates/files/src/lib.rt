@@ -1,4 +1,6 @@
 // Files: a keyed sheet as a file, cut into records and handed to a sheet.
+#![tactic(auto)]
+
 mod fault;
 mod keying;
 mod part;

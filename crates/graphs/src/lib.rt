@@ -1,4 +1,6 @@
 // Graphs of prices and their solvers.
+#![tactic(auto)]
+
 mod asked;
 mod beside;
 mod branch_and_bound;

@@ -1,4 +1,6 @@
 // Prices: what a placement costs. The trait with its laws, and the two kinds that the product uses.
+#![tactic(auto)]
+
 mod plain;
 mod plain_kind;
 mod price;

@@ -1,4 +1,6 @@
 // Reads a keyed sheet from standard input, checks it as the controller will, and prints what it found.
+#![tactic(auto)]
+
 mod input;
 mod records;
 mod summary;

@@ -1,4 +1,6 @@
 // Sheets: a control program as it is keyed in, record by record, and what its lines use and cost.
+#![tactic(auto)]
+
 mod access;
 mod calls;
 mod fault;

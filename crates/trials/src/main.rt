@@ -1,4 +1,6 @@
 // Runs random graphs through every solver and compares each answer with a plain search.
+#![tactic(auto)]
+
 mod asked;
 mod by_hand;
 mod case;

@@ -1,4 +1,6 @@
 // Worked examples: the definitions computed on them by the checker, and the code run on them by tests.
+#![tactic(auto)]
+
 ghost use Rattle.worked.specs.Worked.{Worked};
 
 // The definitions give what each example says.

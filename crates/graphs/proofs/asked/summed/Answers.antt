@@ -20,8 +20,8 @@ loop-v-preserved g c =
     let a = pick_of c.args.picks.now in
     let v = c.loop-v.v in
     elim c.if-has.branch [
-      | then-has w ↦ w.price_is ∙ w.add-price.ensures ∙ ap₂ k.sum w.beside.ensures c.loop-v.invariant ∙ sym (ap (λ l. sum_over k es l a) (below_in gr.present v (sym w.if-has.ensures)))
-      | else-has w ↦ w.price_is ∙ c.loop-v.invariant ∙ sym (ap (λ l. sum_over k es l a) (below_out gr.present v (sym w.if-has.ensures)))
+      | then-has w ↦ w.price-is ∙ w.add-price.ensures ∙ ap₂ k.sum w.beside.ensures c.loop-v.invariant ∙ sym (ap (λ l. sum_over k es l a) (below_in gr.present v (sym w.if-has.ensures)))
+      | else-has w ↦ w.price-is ∙ c.loop-v.invariant ∙ sym (ap (λ l. sum_over k es l a) (below_out gr.present v (sym w.if-has.ensures)))
     ]
 
 pub returns : goal.returns

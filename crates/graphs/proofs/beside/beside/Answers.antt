@@ -35,8 +35,8 @@ loop-u-preserved g c =
       | then-has w ↦
           let e = sym w.if-has.ensures in
           let there : Choice gr u (a u) = record { variable = omega (arith, c.requires.0.variable); present = e; within = c.requires.1.0 u (omega arith) e } in
-          w.price_is ∙ w.add-price.ensures
+          w.price-is ∙ w.add-price.ensures
           ∙ ap₂ k.sum (w.entry.ensures ∙ entry_read k gr m c.args.v u c.args.i (a u) c.requires.0 there (λ q. omega arith)) c.loop-u.invariant
           ∙ sym (beside_in k t gr.present c.args.v u c.args.i a e)
-      | else-has w ↦ w.price_is ∙ c.loop-u.invariant ∙ sym (beside_out k t gr.present c.args.v u c.args.i a (sym w.if-has.ensures))
+      | else-has w ↦ w.price-is ∙ c.loop-u.invariant ∙ sym (beside_out k t gr.present c.args.v u c.args.i a (sym w.if-has.ensures))
     ]

@@ -9,7 +9,7 @@ loop-v-preserved g c =
     let md = model_in g.P.Price c.args.graph.now c.args.prices.now in
     let v = c.loop-v.v in
     let long : v < length c.loop-v.masks = omega (arith, c.loop-v.invariant.1) in (
-      joined g.P.Price md v (omega arith) c.loop-v.masks c.join.new.masks long c.loop-v.invariant.0 c.lower-edges-row.result c.lower-edges-row.ensures c.join.ensures,
+      joined g.P.Price md v (omega arith) c.loop-v.masks c.join.new.masks long c.loop-v.invariant.0 c.lower_edges-row.result c.lower_edges-row.ensures c.join.ensures,
       omega arith,
     )
 

@@ -17,15 +17,15 @@ entry-requires g c =
       (choice_five k gr m c.args.u c.args.i c.requires.0.within, (choice_five k gr m c.args.v c.loop-j.j hj, c.requires.1.1.1)),
     )
 
-pub returns-then-not-at-most : goal.returns-then-not-at-most
-returns-then-not-at-most g c =
+pub returns-then-not-at_most : goal.returns-then-not-at_most
+returns-then-not-at_most g c =
     let gr = c.args.graph.now in
     let k = g.P.Price in
     let m = c.args.prices.now in
     let hj : c.loop-j.j < count_at gr c.args.v = omega (arith, c.count-j-end.ensures.value) in
     let there : Choice gr c.args.v c.loop-j.j = record { variable = c.requires.1.0.variable; present = c.requires.1.0.present; within = hj } in
     let same = entry_read k gr m c.args.u c.args.v c.args.i c.loop-j.j c.requires.0 there c.requires.1.1.0 in
-    let e = ap₂ k.at_most (sym same ∙ sym c.entry.ensures) (sym c.zero.ensures) ∙ sym c.at-most.ensures ∙ c.if-not-at-most.true in
+    let e = ap₂ k.at_most (sym same ∙ sym c.entry.ensures) (sym c.zero.ensures) ∙ sym c.at_most.ensures ∙ c.if-not-at_most.true in
     sym (some_at ((model_in k gr m).count c.args.v) (priced k (model_in k gr m) c.args.u c.args.v c.args.i) c.loop-j.j
     (omega (arith, count_read k gr m c.args.v c.requires.1.0.variable c.requires.1.0.present)) (ap not e))
 
@@ -37,7 +37,7 @@ loop-j-preserved g c =
     let hj : c.loop-j.j < count_at gr c.args.v = omega (arith, c.count-j-end.ensures.value) in
     let there : Choice gr c.args.v c.loop-j.j = record { variable = c.requires.1.0.variable; present = c.requires.1.0.present; within = hj } in
     let same = entry_read k gr m c.args.u c.args.v c.args.i c.loop-j.j c.requires.0 there c.requires.1.1.0 in
-    let e = ap₂ k.at_most (sym same ∙ sym c.entry.ensures) (sym c.zero.ensures) ∙ sym c.at-most.ensures ∙ c.if-not-at-most.false in
+    let e = ap₂ k.at_most (sym same ∙ sym c.entry.ensures) (sym c.zero.ensures) ∙ sym c.at_most.ensures ∙ c.if-not-at_most.false in
     some_more c.loop-j.j (priced k (model_in k gr m) c.args.u c.args.v c.args.i) c.loop-j.invariant (ap not e)
 
 pub returns : goal.returns

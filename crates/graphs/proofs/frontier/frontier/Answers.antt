@@ -6,7 +6,7 @@ use Rattle.graphs.specs.Frontier.{reaches_above}
 use Rattle.graphs.specs.Bitwise.{by_set, by_skip}
 use Rattle.graphs.specs.Fronts.{frontier_by_lem}
 use Rattle.graphs.proofs.frontier.frontier.Goals as goal
-use Rattle.graphs.proofs.frontier.frontier.Goals.{then-reaches-above, else-reaches-above}
+use Rattle.graphs.proofs.frontier.frontier.Goals.{then-reaches_above, else-reaches_above}
 
 pub loop-u-preserved : goal.loop-u-preserved
 loop-u-preserved c =
@@ -15,9 +15,9 @@ loop-u-preserved c =
     let es = c.args.edges.now in
     let t = λ (y : ℕ). leb y v && reaches_above (get_or es y 0) v in
     let low = ap (λ b. b && reaches_above (get_or es u 0) v) (le-leb u v (omega arith)) in
-    elim c.if-reaches-above.branch [
-      | then-reaches-above w ↦ w.mask-is ∙ ap (λ m. bit_or m ((1 * 2 ^ u) % 2 ^ 16)) c.loop-u.invariant ∙ by_set t u (omega arith) (low ∙ sym w.if-reaches-above.ensures)
-      | else-reaches-above w ↦ w.mask-is ∙ c.loop-u.invariant ∙ by_skip t u (low ∙ sym w.if-reaches-above.ensures)
+    elim c.if-reaches_above.branch [
+      | then-reaches_above w ↦ w.mask-is ∙ ap (λ m. bit_or m ((1 * 2 ^ u) % 2 ^ 16)) c.loop-u.invariant ∙ by_set t u (omega arith) (low ∙ sym w.if-reaches_above.ensures)
+      | else-reaches_above w ↦ w.mask-is ∙ c.loop-u.invariant ∙ by_skip t u (low ∙ sym w.if-reaches_above.ensures)
     ]
 
 pub returns : goal.returns

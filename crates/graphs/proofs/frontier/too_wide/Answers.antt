@@ -8,15 +8,15 @@ use Rattle.graphs.proofs.frontier.too_wide.Goals as goal
 pub loop-v-init : goal.loop-v-init
 loop-v-init c = refl
 
-pub returns-then-is-too-wide : goal.returns-then-is-too-wide
-returns-then-is-too-wide c =
+pub returns-then-is_too_wide : goal.returns-then-is_too_wide
+returns-then-is_too_wide c =
     let t = λ (v : ℕ). has c.args.graph.now.present v && ltb 3 (ones (frontier_by (λ y. get_or c.args.edges.now y 0) v)) in
-    sym (c.loop-v.invariant ∙ first_here t c.loop-v.v (omega arith) (sym c.if-is-too-wide.ensures))
+    sym (c.loop-v.invariant ∙ first_here t c.loop-v.v (omega arith) (sym c.if-is_too_wide.ensures))
 
 pub loop-v-preserved : goal.loop-v-preserved
 loop-v-preserved c =
     let t = λ (v : ℕ). has c.args.graph.now.present v && ltb 3 (ones (frontier_by (λ y. get_or c.args.edges.now y 0) v)) in
-    c.loop-v.invariant ∙ first_later t c.loop-v.v (omega arith) (sym c.if-is-too-wide.ensures)
+    c.loop-v.invariant ∙ first_later t c.loop-v.v (omega arith) (sym c.if-is_too_wide.ensures)
 
 pub returns : goal.returns
 returns c =

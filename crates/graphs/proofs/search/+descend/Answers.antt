@@ -7,7 +7,7 @@ use Rattle.graphs.specs.Reading.{count_read}
 use Rattle.graphs.specs.Walk.{taken_set}
 use Rattle.graphs.proofs.Stepping.{each_more, search_done, search_in, search_out, tried_deeper, tried_passed}
 use Rattle.graphs.proofs.search.+descend.Goals as goal
-use Rattle.graphs.proofs.search.+descend.Goals.{then-not-at-most, else-not-at-most}
+use Rattle.graphs.proofs.search.+descend.Goals.{then-not-at_most, else-not-at_most}
 
 pub returns-then-v-eq12 : goal.returns-then-v-eq12
 returns-then-v-eq12 g t c =
@@ -22,8 +22,8 @@ returns-then-not-has g t c =
     c.descend.ensures
     ∙ sym (search_out k (model_in k gr c.args.prices.now) gr.present c.args.v (pick_of c.args.taken) c.args.price (found_in c.args.best.now) (omega arith) (sym c.if-not-has.ensures))
 
-pub descend-requires-then-not-at-most : goal.descend-requires-then-not-at-most
-descend-requires-then-not-at-most g t c κs within =
+pub descend-requires-then-not-at_most : goal.descend-requires-then-not-at_most
+descend-requires-then-not-at_most g t c κs within =
     let gr = c.args.graph.now in
     let l : c.args.v < length c.args.taken = omega arith in
     let hi : c.loop-i.i < count_at gr c.args.v = omega (arith, c.count-i-end.ensures.value) in
@@ -44,11 +44,11 @@ loop-i-preserved g t c =
     let l : v < length xs = omega arith in
     let is = c.add-next.ensures ∙ ap (λ x. k.sum x q) c.beside.ensures in
     let last = ap (f i) c.loop-i.invariant ∙ sym (each_more f i (found_in c.args.best.now)) in
-    elim c.if-not-at-most.branch [
-      | then-not-at-most w ↦ ap found_in w.best-is ∙ w.descend-then-not-at-most.ensures
-          ∙ tried_deeper k md p v i xs q c.add-next.result is (found_in c.loop-i.best) l (sym c.if-not-has.ensures) (sym w.if-not-at-most.ensures) ∙ last
-      | else-not-at-most w ↦ ap found_in w.best-is
-          ∙ tried_passed k md p v i xs q c.add-next.result is (found_in c.loop-i.best) (sym w.if-not-at-most.ensures) ∙ last
+    elim c.if-not-at_most.branch [
+      | then-not-at_most w ↦ ap found_in w.best-is ∙ w.descend-then-not-at_most.ensures
+          ∙ tried_deeper k md p v i xs q c.add-next.result is (found_in c.loop-i.best) l (sym c.if-not-has.ensures) (sym w.if-not-at_most.ensures) ∙ last
+      | else-not-at_most w ↦ ap found_in w.best-is
+          ∙ tried_passed k md p v i xs q c.add-next.result is (found_in c.loop-i.best) (sym w.if-not-at_most.ensures) ∙ last
     ]
 
 pub returns : goal.returns

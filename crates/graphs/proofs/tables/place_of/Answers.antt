@@ -7,16 +7,16 @@ use Rattle.graphs.specs.Improving.{number_below}
 use Rattle.graphs.proofs.tables.place_of.Goals as goal
 use Rattle.graphs.proofs.tables.place_of.Goals.{then-holds, else-holds}
 
-pub overflow-mul-place : goal.overflow-mul-place
-overflow-mul-place c =
+pub overflow_mul-place : goal.overflow_mul-place
+overflow_mul-place c =
     let f = c.args.front in let u = c.loop-u.u in let xs = c.args.picks.now in
     let b : number_of (members_below f u) (pick_of xs) < 125 = number_below (members_below f u) (pick_of xs) (omega (arith, below_shorter f u c.args.v (omega arith))) (five_all f u xs (λ y l e. c.requires.1.1 y (omega arith) e)) in
     let e = c.loop-u.invariant in
     let h : c.loop-u.place < 125 = omega arith in
     search rules
 
-pub overflow-add-place : goal.overflow-add-place
-overflow-add-place c =
+pub overflow_add-place : goal.overflow_add-place
+overflow_add-place c =
     let f = c.args.front in let u = c.loop-u.u in let xs = c.args.picks.now in
     let b : number_of (members_below f u) (pick_of xs) < 125 = number_below (members_below f u) (pick_of xs) (omega (arith, below_shorter f u c.args.v (omega arith))) (five_all f u xs (λ y l e. c.requires.1.1 y (omega arith) e)) in
     let e = c.loop-u.invariant in

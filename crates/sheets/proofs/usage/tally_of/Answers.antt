@@ -6,12 +6,12 @@ use Rattle.sheets.proofs.usage.tally_of.Goals as goal
 
 pub loop-line-preserved : goal.loop-line-preserved
 loop-line-preserved c =
-    let t = c.times-in-times.result in
-    let w = c.weight-of.result in
-    let n = count_more c.args.access c.args.variable c.args.lines.now c.loop-line.line-index _ c.loop-line-test.true t w c.times-in-times.ensures.value in
-    let m = weight_more c.args.access c.args.variable c.args.lines.now c.loop-line.line-index _ c.loop-line-test.true t w c.times-in-times.ensures.value c.weight-of.ensures in
+    let t = c.times_in-times.result in
+    let w = c.weight_of.result in
+    let n = count_more c.args.access c.args.variable c.args.lines.now c.loop-line.line-index _ c.loop-line-test.true t w c.times_in-times.ensures.value in
+    let m = weight_more c.args.access c.args.variable c.args.lines.now c.loop-line.line-index _ c.loop-line-test.true t w c.times_in-times.ensures.value c.weight_of.ensures in
     let light : w ≤ 255 = omega arith in
-    let p : w * t ≤ 255 * 2 = mul-le-mul light c.times-in-times.ensures.low in
+    let p : w * t ≤ 255 * 2 = mul-le-mul light c.times_in-times.ensures.low in
     (omega arith, omega arith, omega arith, omega arith)
 
 pub returns : goal.returns

@@ -12,6 +12,6 @@ returns-then-offset-self c =
 pub returns : goal.returns
 returns c =
     elim c.if-self-offset.branch [
-      | then-self-offset w ↦ cut_short _ _ _ _ c.if-offset-self.false c.size-of-size.ensures w.if-self-offset.true w.end-is
-      | else-self-offset w ↦ cut_whole _ _ _ _ c.if-offset-self.false c.size-of-size.ensures w.if-self-offset.false w.end-is
+      | then-self-offset w ↦ cut_short _ _ _ _ c.if-offset-self.false c.size_of-size.ensures w.if-self-offset.true w.end-is
+      | else-self-offset w ↦ cut_whole _ _ _ _ c.if-offset-self.false c.size_of-size.ensures w.if-self-offset.false w.end-is
     ]

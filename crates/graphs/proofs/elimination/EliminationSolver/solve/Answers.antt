@@ -12,8 +12,8 @@ returns-in-Some g c =
     let k = g.P.Price in
     let gr = c.args.graph.now in
     let mem = c.args.memory.now in
-    let w = widest_found k gr (take 1710 mem) c.edge-masks-edges.result c.edge-masks-edges.ensures in
-    let a = answer_turned k gr (take 1710 mem) (length mem) c.if-memory-lt-BASE-NEED.false c.in-Some.variable (c.in-Some.ensures ∙ w) in
+    let w = widest_found k gr (take 1710 mem) c.edge_masks-edges.result c.edge_masks-edges.ensures in
+    let a = answer_turned k gr (take 1710 mem) (length mem) c.if-memory-lt-BASE_NEED.false c.in-Some.variable (c.in-Some.ensures ∙ w) in
     record {
       answer = a;
       stands = refl;
@@ -28,18 +28,18 @@ eliminated-best-requires g c =
     let k = g.P.Price in
     let gr = c.args.graph.now in
     let mem = c.args.memory.now in
-    let w = widest_found k gr (take 1710 mem) c.edge-masks-edges.result c.edge-masks-edges.ensures in
-    record { room = c.if-memory-lt-BASE-NEED.false; joined = c.edge-masks-edges.ensures; narrow = none_narrow k (model_of k gr mem) (c.in-default.ensures ∙ w) }
+    let w = widest_found k gr (take 1710 mem) c.edge_masks-edges.result c.edge_masks-edges.ensures in
+    record { room = c.if-memory-lt-BASE_NEED.false; joined = c.edge_masks-edges.ensures; narrow = none_narrow k (model_of k gr mem) (c.in_default.ensures ∙ w) }
 
-pub returns-then-at-most : goal.returns-then-at-most
-returns-then-at-most g c =
+pub returns-then-at_most : goal.returns-then-at_most
+returns-then-at_most g c =
     let k = g.P.Price in
     let gr = c.args.graph.now in
     let mem = c.args.memory.now in
     let r = c.eliminated-best.result in
-    let w = widest_found k gr (take 1710 mem) c.edge-masks-edges.result c.edge-masks-edges.ensures in
-    let d = ap (λ t. k.at_most t r.price) (sym c.top.ensures) ∙ sym c.if-at-most.ensures in
-    let a = answer_top k gr (take 1710 mem) (length mem) c.if-memory-lt-BASE-NEED.false (c.in-default.ensures ∙ w) r.price (pick_of r.picks) c.eliminated-best.ensures.found d in
+    let w = widest_found k gr (take 1710 mem) c.edge_masks-edges.result c.edge_masks-edges.ensures in
+    let d = ap (λ t. k.at_most t r.price) (sym c.top.ensures) ∙ sym c.if-at_most.ensures in
+    let a = answer_top k gr (take 1710 mem) (length mem) c.if-memory-lt-BASE_NEED.false (c.in_default.ensures ∙ w) r.price (pick_of r.picks) c.eliminated-best.ensures.found d in
     record {
       answer = a;
       stands = c.eliminated-best.ensures.stands;
@@ -56,9 +56,9 @@ returns g c =
     let mem = c.args.memory.now in
     let r = c.eliminated-best.result in
     let s = c.eliminated-best.ensures.found in
-    let w = widest_found k gr (take 1710 mem) c.edge-masks-edges.result c.edge-masks-edges.ensures in
-    let d = ap (λ t. k.at_most t r.price) (sym c.top.ensures) ∙ sym c.if-at-most.ensures in
-    let a = answer_found k gr (take 1710 mem) (length mem) c.if-memory-lt-BASE-NEED.false (c.in-default.ensures ∙ w) r.price (pick_of r.picks) s d in
+    let w = widest_found k gr (take 1710 mem) c.edge_masks-edges.result c.edge_masks-edges.ensures in
+    let d = ap (λ t. k.at_most t r.price) (sym c.top.ensures) ∙ sym c.if-at_most.ensures in
+    let a = answer_found k gr (take 1710 mem) (length mem) c.if-memory-lt-BASE_NEED.false (c.in_default.ensures ∙ w) r.price (pick_of r.picks) s d in
     record {
       answer = a;
       stands = c.eliminated-best.ensures.stands;

@@ -17,10 +17,14 @@ loop-v-preserved c =
       more_after xs ys c.loop-v.v c.clamped.result h c.clamped.ensures c.loop-v.invariant.1 c.loop-v.invariant.2,
     )
 
-pub invariant-of-result : goal.invariant-of-result
-invariant-of-result c =
+pub invariant_of-result : goal.invariant_of-result
+invariant_of-result c =
     let e = all_clamped c.args.counts c.loop-v.sizes c.loop-v.invariant.0 (λ k h. c.loop-v.invariant.1 k (omega arith)) in
-    (omega (arith, and_le_r c.args.present 4095), (subst (λ l. sized l ≡ true) (sym e) (sized_clamped c.args.counts), (omega (arith, c.loop-v.invariant.0), tt)))
+    record {
+      few = omega (arith, and_le_r c.args.present 4095);
+      counted = subst (λ l. sized l ≡ true) (sym e) (sized_clamped c.args.counts);
+      twelve = omega (arith, c.loop-v.invariant.0);
+    }
 
 pub returns : goal.returns
 returns c = record {

@@ -6,7 +6,7 @@ use Rattle.sheets.proofs.sheet.Sheet.price_in_memory.Goals as goal
 pub loop-line-preserved : goal.loop-line-preserved
 loop-line-preserved g c =
     let k = g.P.Price in
-    sym (price_more k everything_in_memory _ _ _ _ c.loop-line-test.true _ _ c.line-in-memory.ensures c.add-total.ensures) ∙ c.loop-line.invariant
+    sym (price_more k everything_in_memory _ _ _ _ c.loop-line-test.true _ _ c.line_in_memory.ensures c.add-total.ensures) ∙ c.loop-line.invariant
 
 pub returns : goal.returns
 returns g c =
