@@ -1,4 +1,4 @@
-use Rattle.std.proofs.Common.{◌≡◌, [], refl, arith, ltb-true}
+use Rattle.std.proofs.Common.{◌≡◌, [], arith, ltb-true}
 use Rattle.std.proofs.lemmas.List.{nil_from_length}
 use Rattle.files.proofs.keying.declares.Goals as goal
 

@@ -1,4 +1,4 @@
-use Rattle.std.proofs.Common.{refl, ◌∙◌}
+use Rattle.std.proofs.Common.{◌∙◌}
 use Rattle.std.proofs.lemmas.List.{drop_all}
 use Rattle.sheets.proofs.Walk.{fault_more, fault_here}
 use Rattle.sheets.proofs.record.test_all.Goals as goal
