@@ -2,7 +2,7 @@
 use Rattle.std.proofs.Common.{◌≡◌, ℕ, zero, suc, ◌+◌, ◌<◌, ◌≤◌, Bool, true, false, cond, not, ◌&&◌, ◌||◌, ltb, List, [], ◌∷◌, map, length, get_or, sym, refl, ap, ◌∙◌, ap₂, ⊎_elim, arith}
 use mathlib.Core.Path.{fun_ext}
 use lib.ListN.{length-map}
-use Rattle.std.specs.List.{AllByRecursion as All}
+use Rattle.std.specs.List.{AllByRecursion}
 use Rattle.std.proofs.ByRecursion.{All-weaker}
 use Rattle.std.proofs.lemmas.List.{ext_get_or, get_or-map, get_or-take}
 use Rattle.std.proofs.lemmas.Bool.{and_parts, cases_Bool, ltb-true}
@@ -43,11 +43,11 @@ module _ (t : ℕ → Bool) (p v : ℕ) (h : v < 12) where
 pub all_set : (t : ℕ → Bool) (p v : ℕ) → v ≡ 12 → all_of t (members_from p v) ≡ true
 all_set t p v e = ap (all_of t) (none_past (has p) v e)
 
-all_same : (s t : ℕ → Bool) (xs : List ℕ) → All (λ x. s x ≡ t x) xs → all_of s xs ≡ all_of t xs
+all_same : (s t : ℕ → Bool) (xs : List ℕ) → AllByRecursion (λ x. s x ≡ t x) xs → all_of s xs ≡ all_of t xs
 all_same s t [] h = refl
 all_same s t (x ∷ xs) h = ap₂ ◌&&◌ h.0 (all_same s t xs h.1)
 
-all_pass : (t : ℕ → Bool) (xs : List ℕ) → all_of t xs ≡ true → All (λ x. t x ≡ true) xs
+all_pass : (t : ℕ → Bool) (xs : List ℕ) → all_of t xs ≡ true → AllByRecursion (λ x. t x ≡ true) xs
 all_pass t [] e = tt
 all_pass t (x ∷ xs) e = let p = and_parts (t x) (all_of t xs) e in (p.0, all_pass t xs p.1)
 

@@ -3,7 +3,7 @@ use Rattle.std.specs.Prelude.{◌≡◌, ℕ, zero, suc, ◌+◌, ◌-◌, ◌*�
 use Rattle.std.proofs.Common.{sym, ap, ◌∙◌, ⊎_elim, arith, add-one}
 use Rattle.std.proofs.Math.Pow.{field, mod-mod-pow, high, low}
 use Rattle.std.specs.Int.Count.{ones}
-use Rattle.std.specs.List.{AllByRecursion as All}
+use Rattle.std.specs.List.{AllByRecursion}
 use Rattle.std.proofs.lemmas.Nat.{one_shl, or_comm, or_shifted, pow-add, ones_cat}
 use Rattle.std.proofs.lemmas.Bool.{cases_lt}
 use Rattle.std.proofs.ByRecursion.{All-weaker}
@@ -48,16 +48,16 @@ has_by t (suc n) v h = ⊎_elim
     ∙ ap (λ x. nat_eq (x % 2) 1) (high (bit (t n)) n (by_below t n)) ∙ bit_of (t n) ∙ ap t (sym e))
     (cases_lt v n)
 
-up_below : (v n m : ℕ) → v + n ≤ m → All (λ x. x < m) (up_from v n)
+up_below : (v n m : ℕ) → v + n ≤ m → AllByRecursion (λ x. x < m) (up_from v n)
 up_below v zero m h = tt
 up_below v (suc n) m h = (omega arith, up_below (suc v) n m (omega arith))
 
-pub all_twelve : All (λ x. x < 12) twelve
+pub all_twelve : AllByRecursion (λ x. x < 12) twelve
 unfolding twelve
 all_twelve = up_below 0 12 12 (omega arith)
 
 -- what holds below twelve holds of each of the twelve
-pub on_twelve : (Q : ℕ → Type 0) → ((x : ℕ) → x < 12 → Q x) → All Q twelve
+pub on_twelve : (Q : ℕ → Type 0) → ((x : ℕ) → x < 12 → Q x) → AllByRecursion Q twelve
 on_twelve Q f = All-weaker (λ x. x < 12) Q f twelve all_twelve
 
 -- one variable more

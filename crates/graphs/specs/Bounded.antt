@@ -1,7 +1,7 @@
 -- Branch and bound loses nothing: it finds an assignment of lowest total, or every assignment totals top.
 use Rattle.std.specs.Prelude.{◌≡◌, ℕ, zero, suc, ◌<◌, true, false, ◌⊎◌, List, [], ◌∷◌, ◌++◌, ◌≢◌, refl}
 use Rattle.std.proofs.Common.{sym, ap, ap₂, ◌∙◌, subst, inl, inr, ⊎_elim, append-nil, arith}
-use Rattle.std.specs.List.{AllByRecursion as All}
+use Rattle.std.specs.List.{AllByRecursion}
 use Rattle.std.proofs.ByRecursion.{All-weaker}
 use Rattle.std.proofs.lemmas.Bool.{both_ways, cond_both, cases_lt}
 use Rattle.prices.specs.declared.price.Price.{Ghosts as Kind}
@@ -20,13 +20,13 @@ onto (x ∷ xs) ys = onto xs (x ∷ ys)
 -- each variable is new where it comes
 abbrev pub Fresh : List ℕ → List ℕ → Type 0
 Fresh [] done = Unit {0}
-Fresh (x ∷ xs) done = All (λ y. (y ≢ x)) done × Fresh xs (x ∷ done)
+Fresh (x ∷ xs) done = AllByRecursion (λ y. (y ≢ x)) done × Fresh xs (x ∷ done)
 
-pub fresh : (xs done : List ℕ) → Ascending xs → All (λ x. All (λ y. y < x) done) xs → Fresh xs done
+pub fresh : (xs done : List ℕ) → Ascending xs → AllByRecursion (λ x. AllByRecursion (λ y. y < x) done) xs → Fresh xs done
 fresh [] done asc h = tt
 fresh (x ∷ xs) done asc h = (
   All-weaker (λ y. y < x) _ (λ y l e. omega arith) done h.0,
-  fresh xs (x ∷ done) asc.1 (all_zip (λ y. x < y) (λ y. All (λ z. z < y) done) _ (λ y l r. (l, r)) xs asc.0 h.1),
+  fresh xs (x ∷ done) asc.1 (all_zip (λ y. x < y) (λ y. AllByRecursion (λ z. z < y) done) _ (λ y l r. (l, r)) xs asc.0 h.1),
 )
 
 module _ {S : Type 0} (f : ℕ → S → S) (Q : S → Type 0) where
@@ -53,7 +53,7 @@ module _ {P : Type 0} (k : Kind P) (t : Entries P) where
   star_mid u x [] ys i a = refl
   star_mid u x (y ∷ xs) ys i a = ap (k.sum (cost t u y i (a y))) (star_mid u x xs ys i a) ∙ left_comm k _ _ _
 
-  sums_mid : (x : ℕ) (xs ys : List ℕ) (a : ℕ → ℕ) → All (λ y. x < y) xs → sum_over k t (xs ++ x ∷ ys) a ≡ sum_over k t (x ∷ (xs ++ ys)) a
+  sums_mid : (x : ℕ) (xs ys : List ℕ) (a : ℕ → ℕ) → AllByRecursion (λ y. x < y) xs → sum_over k t (xs ++ x ∷ ys) a ≡ sum_over k t (x ∷ (xs ++ ys)) a
   sums_mid x [] ys a h = refl
   sums_mid x (y ∷ xs) ys a h =
       ap₂ k.sum (star_mid y x xs ys (a y) a) (sums_mid x xs ys a h.1) ∙ swap4 k _ _ _ _
@@ -64,10 +64,10 @@ module _ {P : Type 0} (k : Kind P) (t : Entries P) where
   sums_onto (x ∷ xs) ys a asc = sums_onto xs (x ∷ ys) a asc.1 ∙ sums_mid x xs ys a asc.0
 
   -- one more choice set
-  set_one : (x i : ℕ) (done : List ℕ) (a : ℕ → ℕ) (p : P) → All (λ y. (y ≢ x)) done → p ≡ sum_over k t done a →
+  set_one : (x i : ℕ) (done : List ℕ) (a : ℕ → ℕ) (p : P) → AllByRecursion (λ y. (y ≢ x)) done → p ≡ sum_over k t done a →
       k.sum (beside k t x done i a) p ≡ sum_over k t (x ∷ done) (put a x i)
   set_one x i done a p new e =
-      let off : All (λ y. put a x i y ≡ a y) done = All-weaker (λ y. (y ≢ x)) _ (λ y n. put_other a x i y n) done new in
+      let off : AllByRecursion (λ y. put a x i y ≡ a y) done = All-weaker (λ y. (y ≢ x)) _ (λ y n. put_other a x i y n) done new in
       sym (ap₂ k.sum (ap (λ j. beside k t x done j (put a x i)) (put_same a x i) ∙ beside_agree k t x done i _ a off) (sum_over_agree k t done _ a off ∙ sym e))
 
 pub record Met {P : Type 0} (k : Kind P) (t : Entries P) (n : ℕ → ℕ) (xs : List ℕ) (r : Found P) : Type 0 where
@@ -84,12 +84,12 @@ module _ {P : Type 0} (k : Kind P) (g : Model P) where
       (le_refl k _)
 
   -- no assignment beats the answer
-  covers : (xs done : List ℕ) (a : ℕ → ℕ) (p : P) (s : Found P) (b : ℕ → ℕ) → Fresh xs done → p ≡ sum_over k g.entries done a → Within g.count xs b → All (λ y. b y ≡ a y) done →
+  covers : (xs done : List ℕ) (a : ℕ → ℕ) (p : P) (s : Found P) (b : ℕ → ℕ) → Fresh xs done → p ≡ sum_over k g.entries done a → Within g.count xs b → AllByRecursion (λ y. b y ≡ a y) done →
       k.at_most (search k g xs done a p s).price (sum_over k g.entries (onto xs done) b) ≡ true
   covers [] done a p s b new e h same = le_same k (e ∙ sym (sum_over_agree k g.entries done b a same))
   covers (x ∷ xs) done a p s b new e h same =
       let ih = covers xs (x ∷ done) in
-      let there : All (λ y. b y ≡ put a x (b x) y) (x ∷ done) = (sym (put_same a x (b x)), all_zip (λ y. b y ≡ a y) (λ y. (y ≢ x)) _ (λ y q d. q ∙ sym (put_other a x (b x) y d)) done same new.0) in
+      let there : AllByRecursion (λ y. b y ≡ put a x (b x) y) (x ∷ done) = (sym (put_same a x (b x)), all_zip (λ y. b y ≡ a y) (λ y. (y ≢ x)) _ (λ y q d. q ∙ sym (put_other a x (b x) y d)) done same new.0) in
       let set : k.sum (beside k g.entries x done (b x) a) p ≡ sum_over k g.entries (x ∷ done) (put a x (b x)) = set_one k g.entries x (b x) done a p new.0 e in
       each_hits (tried k g x xs done a p) (λ r. k.at_most r.price (sum_over k g.entries (onto xs (x ∷ done)) b) ≡ true) (g.count x) s (b x) h.0
       (λ i r _ q. cond_both (k.at_most r.price (k.sum (beside k g.entries x done i a) p)) r _ (λ v. k.at_most v.price (sum_over k g.entries (onto xs (x ∷ done)) b) ≡ true) (λ _. q)
@@ -99,7 +99,7 @@ module _ {P : Type 0} (k : Kind P) (g : Model P) where
       (λ d. ih (put a x (b x)) _ r b new.1 set h.1 there))
 
   -- the answer is an assignment's, or the start's
-  origin : (xs done : List ℕ) (a : ℕ → ℕ) (p : P) (s : Found P) → Fresh xs done → p ≡ sum_over k g.entries done a → Within g.count done a → All (λ x. 0 < g.count x) xs →
+  origin : (xs done : List ℕ) (a : ℕ → ℕ) (p : P) (s : Found P) → Fresh xs done → p ≡ sum_over k g.entries done a → Within g.count done a → AllByRecursion (λ x. 0 < g.count x) xs →
       (search k g xs done a p s ≡ s) ⊎ Met k g.entries g.count (onto xs done) (search k g xs done a p s)
   origin [] done a p s new e ok some = inr (record { valid = ok; meets = e })
   origin (x ∷ xs) done a p s new e ok some =
@@ -112,7 +112,7 @@ module _ {P : Type 0} (k : Kind P) (g : Model P) where
       some.1)))
       (inl refl)
 
-pub all_onto : (Q : ℕ → Type 0) (xs ys : List ℕ) → All Q (onto xs ys) → All Q xs × All Q ys
+pub all_onto : (Q : ℕ → Type 0) (xs ys : List ℕ) → AllByRecursion Q (onto xs ys) → AllByRecursion Q xs × AllByRecursion Q ys
 all_onto Q [] ys h = (tt, h)
 all_onto Q (x ∷ xs) ys h = let r = all_onto Q xs (x ∷ ys) h in ((r.1.0, r.0), r.1.1)
 

@@ -2,7 +2,7 @@
 use Rattle.std.specs.Prelude.{◌≡◌, ℕ, zero, suc, ◌+◌, ◌<◌, ◌≤◌, Bool, true, false, cond, ◌&&◌, List, [], ◌∷◌, length, get_or, Some, None, Ok, Err, Option, count_ones, nat_lt, slice_index, slice_index_or, slice_set, refl}
 use Rattle.std.proofs.Common.{sym, ◌∙◌, subst, ⊎_elim, arith, get_or-set_same, get_or-set_other}
 use Rattle.std.proofs.Math.Path.{ap, ap₂}
-use Rattle.std.specs.List.{AllByRecursion as All}
+use Rattle.std.specs.List.{AllByRecursion}
 use Rattle.std.proofs.lemmas.Bool.{cases_eq}
 use Rattle.prices.specs.declared.price.Price.{Ghosts as Kind}
 use Rattle.graphs.specs.declared.graph.Graph.{Graph}
@@ -22,7 +22,7 @@ use Rattle.graphs.specs.Reading.{mem_members}
 use Rattle.graphs.specs.Turning.{table_at}
 
 -- # The first that passes a test
-first_same : (s t : ℕ → Bool) (xs : List ℕ) → All (λ x. s x ≡ t x) xs → first_of s xs ≡ first_of t xs
+first_same : (s t : ℕ → Bool) (xs : List ℕ) → AllByRecursion (λ x. s x ≡ t x) xs → first_of s xs ≡ first_of t xs
 first_same s t [] h = refl
 first_same s t (x ∷ xs) h = ap₂ (λ b o. cond b (Some x) o) h.0 (first_same s t xs h.1)
 
@@ -30,11 +30,11 @@ abbrev is_some : {X : Type 0} → Option X → ℕ
 is_some None = 0
 is_some (Some x) = 1
 
-first_all : (t : ℕ → Bool) (xs : List ℕ) → first_of t xs ≡ None → All (λ x. t x ≡ false) xs
+first_all : (t : ℕ → Bool) (xs : List ℕ) → first_of t xs ≡ None → AllByRecursion (λ x. t x ≡ false) xs
 first_all t [] e = tt
 first_all t (x ∷ xs) e = go (t x) refl e (first_all t xs)
   where
-    go : (b : Bool) → t x ≡ b → cond b (Some x) (first_of t xs) ≡ None → (first_of t xs ≡ None → All (λ y. t y ≡ false) xs) → (t x ≡ false) × All (λ y. t y ≡ false) xs
+    go : (b : Bool) → t x ≡ b → cond b (Some x) (first_of t xs) ≡ None → (first_of t xs ≡ None → AllByRecursion (λ y. t y ≡ false) xs) → (t x ≡ false) × AllByRecursion (λ y. t y ≡ false) xs
     go true q h f = let z : ◌≡◌ {A = ℕ} 1 0 = ap is_some h in absurd (omega arith)
     go false q h f = (q, f h)
 
@@ -42,7 +42,7 @@ abbrev place_or : ℕ → Option ℕ → ℕ
 place_or d None = d
 place_or d (Some v) = v
 
-first_below : (t : ℕ → Bool) (xs : List ℕ) → All (λ x. x < 12) xs → place_or 0 (first_of t xs) < 12
+first_below : (t : ℕ → Bool) (xs : List ℕ) → AllByRecursion (λ x. x < 12) xs → place_or 0 (first_of t xs) < 12
 first_below t [] h = omega arith
 first_below t (x ∷ xs) h = go (t x) (first_below t xs h.1)
   where
@@ -50,14 +50,14 @@ first_below t (x ∷ xs) h = go (t x) (first_below t xs h.1)
     go true f = h.0
     go false f = f
 
-all_up : (Q : ℕ → Type 0) (a n : ℕ) → All Q (up_from a n) → (v : ℕ) → a ≤ v → v < a + n → Q v
+all_up : (Q : ℕ → Type 0) (a n : ℕ) → AllByRecursion Q (up_from a n) → (v : ℕ) → a ≤ v → v < a + n → Q v
 all_up Q a zero h v l m = absurd (omega arith)
 all_up Q a (suc n) h v l m = ⊎_elim
     (λ e. subst Q (sym e) h.0)
     (λ ne. all_up Q (suc a) n h.1 v (omega arith) (omega arith))
     (cases_eq v a)
 
-at_twelve : (Q : ℕ → Type 0) → All Q twelve → (v : ℕ) → v < 12 → Q v
+at_twelve : (Q : ℕ → Type 0) → AllByRecursion Q twelve → (v : ℕ) → v < 12 → Q v
 unfolding twelve
 at_twelve Q h v l = all_up Q 0 12 h v (omega arith) l
 

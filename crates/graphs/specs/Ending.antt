@@ -1,7 +1,7 @@
 -- The end of the sweep, and what it answers.
 use Rattle.std.specs.Prelude.{◌≡◌, ℕ, zero, suc, ◌+◌, ◌<◌, ◌≤◌, true, false, cond, ◌&&◌, ltb, ◌⊎◌, List, [], ◌∷◌, length, filter, ◌≢◌, count_ones, nat_lt, slice_index, refl}
 use Rattle.std.proofs.Common.{sym, ap, ap₂, ◌∙◌, subst, inl, inr, ⊎_elim, append-nil, arith}
-use Rattle.std.specs.List.{AllByRecursion as All}
+use Rattle.std.specs.List.{AllByRecursion}
 use Rattle.std.proofs.ByRecursion.{All-weaker}
 use Rattle.std.proofs.lemmas.Bool.{both_ways, cond-true, cond-false, cases_eq, cases_lt, cases_Bool, lt-ltb, le-ltb, ltb-false}
 use Rattle.prices.specs.declared.price.Price.{Ghosts as Kind}
@@ -57,7 +57,7 @@ onto_below p (suc d) v e = ⊎_elim
     (λ b. ap₂ onto (from_out p v (omega arith) b) (sym (below_out p v b)) ∙ onto_below p d (v + 1) (omega arith))
     (cases_Bool (has p v))
 
-onto_all : (Q : ℕ → Type 0) (xs ys : List ℕ) → All Q xs → All Q ys → All Q (onto xs ys)
+onto_all : (Q : ℕ → Type 0) (xs ys : List ℕ) → AllByRecursion Q xs → AllByRecursion Q ys → AllByRecursion Q (onto xs ys)
 onto_all Q [] ys h l = l
 onto_all Q (x ∷ xs) ys h l = onto_all Q xs (x ∷ ys) h.1 (h.0, l)
 
@@ -94,7 +94,7 @@ module _ {P : Type 0} (k : Kind P) (g : Graph) (pr : List P) (p : P) (a : ℕ �
 -- the picks taken over
 module _ {P : Type 0} (k : Kind P) (g : Graph) (pr : List P) (p : P) (xs chosen after : List ℕ) (h : Lowest k (model_in k g pr) p (pick_of chosen))
     (w : (y : ℕ) → slice_index after y ≡ cond (nat_lt y 12) (cond (has g.present y) (slice_index chosen y) (slice_index xs y)) (slice_index xs y)) where
-  on : All (λ y. pick_of after y ≡ pick_of chosen y) (members g.present)
+  on : AllByRecursion (λ y. pick_of after y ≡ pick_of chosen y) (members g.present)
   on = All-weaker (λ y. (0 ≤ y) × (y < 12) × (has g.present y ≡ true)) _
       (λ y q. w y ∙ cond-true (nat_lt y 12) _ _ (lt-ltb y 12 q.1) ∙ cond-true (has g.present y) _ _ q.2) (members g.present) (from_members g.present 12 0 refl)
 

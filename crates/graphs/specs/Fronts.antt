@@ -2,7 +2,7 @@
 use Rattle.std.specs.Prelude.{◌≡◌, ℕ, zero, suc, ◌+◌, ◌-◌, ◌*◌, ◌^◌, ◌<◌, ◌≤◌, Bool, true, false, cond, ◌&&◌, List, [], ◌∷◌, length, drop, Some, None, filter, count_ones, nat_le, nat_lt, refl}
 use Rattle.std.proofs.Common.{sym, ap₂, ◌∙◌, subst, inl, inr, ⊎_elim, arith}
 use Rattle.std.proofs.Math.Path.{ap}
-use Rattle.std.specs.List.{AllByRecursion as All}
+use Rattle.std.specs.List.{AllByRecursion}
 use Rattle.std.proofs.ByRecursion.{All-weaker}
 use Rattle.std.proofs.lemmas.Bool.{and_from, and_left, and_parts, both_ways, cases_Bool, cases_eq, cases_lt, cond-true, cond-false, le-leb, lt-leb, lt-ltb, ltb-true, or_cases, or_left, or_right}
 use Rattle.prices.specs.declared.price.Price.{Ghosts as Kind}
@@ -26,13 +26,13 @@ same_test false true f g = g refl
 same_test false false f g = refl
 
 -- # Members from v on
-pub from_members : (p d v : ℕ) → v + d ≡ 12 → All (λ y. (v ≤ y) × (y < 12) × (has p y ≡ true)) (members_from p v)
-from_members p zero v e = let q : v ≡ 12 = omega arith in subst (All _) (sym (none_past (has p) v q)) tt
+pub from_members : (p d v : ℕ) → v + d ≡ 12 → AllByRecursion (λ y. (v ≤ y) × (y < 12) × (has p y ≡ true)) (members_from p v)
+from_members p zero v e = let q : v ≡ 12 = omega arith in subst (AllByRecursion _) (sym (none_past (has p) v q)) tt
 from_members p (suc d) v e =
-    let rest : All (λ y. (v ≤ y) × (y < 12) × (has p y ≡ true)) (members_from p (v + 1)) = All-weaker (λ y. (v + 1 ≤ y) × (y < 12) × (has p y ≡ true)) _ (λ y h. let l : v + 1 ≤ y = h.0 in (omega arith, h.1, h.2)) (members_from p (v + 1)) (from_members p d (v + 1) (omega arith)) in
+    let rest : AllByRecursion (λ y. (v ≤ y) × (y < 12) × (has p y ≡ true)) (members_from p (v + 1)) = All-weaker (λ y. (v + 1 ≤ y) × (y < 12) × (has p y ≡ true)) _ (λ y h. let l : v + 1 ≤ y = h.0 in (omega arith, h.1, h.2)) (members_from p (v + 1)) (from_members p d (v + 1) (omega arith)) in
     ⊎_elim
-    (λ b. subst (All _) (sym (from_in p v (omega arith) b)) ((omega arith, omega arith, b), rest))
-    (λ b. subst (All _) (sym (from_out p v (omega arith) b)) rest)
+    (λ b. subst (AllByRecursion _) (sym (from_in p v (omega arith) b)) ((omega arith, omega arith, b), rest))
+    (λ b. subst (AllByRecursion _) (sym (from_out p v (omega arith) b)) rest)
     (cases_Bool (has p v))
 
 pub in_from : (p d v y : ℕ) → v + d ≡ 12 → v ≤ y → y < 12 → has p y ≡ true → In y (members_from p v)
@@ -47,7 +47,7 @@ in_from p (suc d) v y e h l b = ⊎_elim
 
 -- # Reaching a later variable
 module _ {P : Type 0} (k : Kind P) (g : Model P) (y : ℕ) where
-  reaches_found : (zs : List ℕ) (Q : ℕ → Type 0) → All Q zs → reaches k g y zs ≡ true → Somewhere (λ z. Q z × (linked k g y z ≡ true))
+  reaches_found : (zs : List ℕ) (Q : ℕ → Type 0) → AllByRecursion Q zs → reaches k g y zs ≡ true → Somewhere (λ z. Q z × (linked k g y z ≡ true))
   reaches_found [] Q h e = absurd (both_ways false refl e)
   reaches_found (z ∷ zs) Q h e = ⊎_elim (λ l. record { place = z; there = (h.0, l) }) (λ l. reaches_found zs Q h.1 l) (or_cases (linked k g y z) (reaches k g y zs) e)
 
@@ -180,11 +180,11 @@ module _ (t : ℕ → Bool) (v : ℕ) where
   first_none e = ap (λ n. first_of t (drop n twelve)) e
 
 -- # Numbers over a mask
-pub five_all : (p v : ℕ) (xs : List ℕ) → Five p v xs → All (λ y. pick_of xs y < 5) (members_below p v)
+pub five_all : (p v : ℕ) (xs : List ℕ) → Five p v xs → AllByRecursion (λ y. pick_of xs y < 5) (members_below p v)
 five_all p zero xs s = tt
 five_all p (suc v) xs s = ⊎_elim
-    (λ e. subst (All (λ y. pick_of xs y < 5)) (sym (cond-true (has p v) _ _ e)) (s v (omega arith) e, five_all p v xs (λ y l b. s y (omega arith) b)))
-    (λ e. subst (All (λ y. pick_of xs y < 5)) (sym (cond-false (has p v) _ _ e)) (five_all p v xs (λ y l b. s y (omega arith) b)))
+    (λ e. subst (AllByRecursion (λ y. pick_of xs y < 5)) (sym (cond-true (has p v) _ _ e)) (s v (omega arith) e, five_all p v xs (λ y l b. s y (omega arith) b)))
+    (λ e. subst (AllByRecursion (λ y. pick_of xs y < 5)) (sym (cond-false (has p v) _ _ e)) (five_all p v xs (λ y l b. s y (omega arith) b)))
     (cases_Bool (has p v))
 
 below_more : (p v : ℕ) → length (members_below p v) ≤ length (members_below p (suc v))

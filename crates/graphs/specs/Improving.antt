@@ -1,7 +1,7 @@
 -- A table over the frontier, one variable further.
 use Rattle.std.specs.Prelude.{◌≡◌, ℕ, ◌+◌, ◌*◌, ◌<◌, ◌≤◌, Bool, true, false, cond, ◌⊎◌, List, [], ◌∷◌, length, filter, ◌==◌, ◌≢◌, refl}
 use Rattle.std.proofs.Common.{sym, ap, ap₂, ◌∙◌, subst, inl, inr, ⊎_elim, arith}
-use Rattle.std.specs.List.{AllByRecursion as All}
+use Rattle.std.specs.List.{AllByRecursion}
 use Rattle.std.proofs.ByRecursion.{All-weaker, all_kept_by, kept_by_passes}
 use Rattle.std.proofs.lemmas.Bool.{or_parts, or_right, cases_eq, cond_both, cond-true, cond-false, eq-eqb, ne_eqb}
 use Rattle.prices.specs.declared.price.Price.{Ghosts as Kind}
@@ -14,17 +14,17 @@ use Rattle.graphs.specs.Linking.{linked_sym, no_link}
 use Rattle.graphs.specs.Plain.{put_same, put_other, beside_agree, sum_over_agree}
 
 -- numbers of assignments
-pub number_agree : (ys : List ℕ) (a b : ℕ → ℕ) → All (λ y. a y ≡ b y) ys → number_of ys a ≡ number_of ys b
+pub number_agree : (ys : List ℕ) (a b : ℕ → ℕ) → AllByRecursion (λ y. a y ≡ b y) ys → number_of ys a ≡ number_of ys b
 number_agree [] a b h = refl
 number_agree (y ∷ ys) a b h = ap₂ (λ m n. m + 5 * n) h.0 (number_agree ys a b h.1)
 
-pub number_same : (ys : List ℕ) (a b : ℕ → ℕ) → All (λ y. a y < 5) ys → All (λ y. b y < 5) ys → number_of ys a ≡ number_of ys b → All (λ y. a y ≡ b y) ys
+pub number_same : (ys : List ℕ) (a b : ℕ → ℕ) → AllByRecursion (λ y. a y < 5) ys → AllByRecursion (λ y. b y < 5) ys → number_of ys a ≡ number_of ys b → AllByRecursion (λ y. a y ≡ b y) ys
 number_same [] a b h l e = tt
 number_same (y ∷ ys) a b h l e =
     let p : a y < 5 = h.0 in let q : b y < 5 = l.0 in
     (omega arith, number_same ys a b h.1 l.1 (omega arith))
 
-pub number_below : (ys : List ℕ) (a : ℕ → ℕ) → length ys ≤ 3 → All (λ y. a y < 5) ys → number_of ys a < 125
+pub number_below : (ys : List ℕ) (a : ℕ → ℕ) → length ys ≤ 3 → AllByRecursion (λ y. a y < 5) ys → number_of ys a < 125
 number_below [] a n h = omega arith
 number_below (x ∷ []) a n h = let p : a x < 5 = h.0 in omega arith
 number_below (x ∷ y ∷ []) a n h = let p : a x < 5 = h.0 in let q : a y < 5 = h.1.0 in omega arith
@@ -39,7 +39,7 @@ in_kept t (y ∷ ys) x (inr m) e = cond_both (t y) (y ∷ filter t ys) (filter t
 kept_in : (t : ℕ → Bool) (xs : List ℕ) (y : ℕ) → In y (filter t xs) → In y xs × (t y ≡ true)
 kept_in t xs y m = (all_in (λ x. In x xs) (filter t xs) y (all_kept_by t _ xs (in_itself xs)) m, all_in (λ x. t x ≡ true) (filter t xs) y (kept_by_passes t xs) m)
 
-all_from_in : (Q : ℕ → Type 0) (xs : List ℕ) → ((y : ℕ) → In y xs → Q y) → All Q xs
+all_from_in : (Q : ℕ → Type 0) (xs : List ℕ) → ((y : ℕ) → In y xs → Q y) → AllByRecursion Q xs
 all_from_in Q xs h = All-weaker (λ y. In y xs) Q h xs (in_itself xs)
 
 -- the entry improved
@@ -53,7 +53,7 @@ pub at_other : {X : Type 0} (f : ℕ → X) (c : ℕ) (x : X) (y : ℕ) → (y �
 at_other f c x y h = cond-false (y == c) x (f y) (ne_eqb y c h)
 
 module _ {P : Type 0} (k : Kind P) (g : Model P) where
-  beside_drop : (x : ℕ) (ys : List ℕ) (i : ℕ) (a : ℕ → ℕ) (q : ℕ → Bool) → All (λ y. (q y ≡ false → cost g.entries x y i (a y) ≡ k.least)) ys →
+  beside_drop : (x : ℕ) (ys : List ℕ) (i : ℕ) (a : ℕ → ℕ) (q : ℕ → Bool) → AllByRecursion (λ y. (q y ≡ false → cost g.entries x y i (a y) ≡ k.least)) ys →
       beside k g.entries x ys i a ≡ beside k g.entries x (filter q ys) i a
   beside_drop x [] i a q h = refl
   beside_drop x (y ∷ ys) i a q h = cond_both (q y) (y ∷ filter q ys) (filter q ys) (λ l. beside k g.entries x (y ∷ ys) i a ≡ beside k g.entries x l i a)
@@ -61,7 +61,7 @@ module _ {P : Type 0} (k : Kind P) (g : Model P) where
       (λ e. ap₂ k.sum (h.0 e) (beside_drop x ys i a q h.1) ∙ k.laws.zero_sum _)
 
   -- only the frontier has entries with x
-  beside_front : (x : ℕ) (xs done : List ℕ) (i : ℕ) (a : ℕ → ℕ) → All (λ y. (y ≢ x)) done → i < g.count x → Within g.count done a →
+  beside_front : (x : ℕ) (xs done : List ℕ) (i : ℕ) (a : ℕ → ℕ) → AllByRecursion (λ y. (y ≢ x)) done → i < g.count x → Within g.count done a →
       beside k g.entries x done i a ≡ beside k g.entries x (front k g done (x ∷ xs)) i a
   beside_front x xs done i a new hx h = beside_drop x done i a (λ y. reaches k g y (x ∷ xs))
       (all_zip (λ y. (y ≢ x)) (λ y. a y < g.count y) _ (λ y ne l e. no_link k g x y i (a y) (linked_sym k g x y (λ q. ne (sym q)) ∙ (or_parts (linked k g y x) (reaches k g y xs) e).0) hx l) done new h)
@@ -101,9 +101,9 @@ module _ {P : Type 0} (k : Kind P) (g : Model P) where
   unused done later t l h = record { met = λ c b. inl (h c b); covers = λ b v z. absurd z }
 
   -- the variable x at choice i beside the assignment a that is kept at j
-  module _ (x : ℕ) (xs done : List ℕ) (t : ℕ → P) (l : ℕ → ℕ → ℕ) (small : (y : ℕ) → g.count y ≤ 5) (new : All (λ y. (y ≢ x)) done)
+  module _ (x : ℕ) (xs done : List ℕ) (t : ℕ → P) (l : ℕ → ℕ → ℕ) (small : (y : ℕ) → g.count y ≤ 5) (new : AllByRecursion (λ y. (y ≢ x)) done)
       (old : Kept k g done (x ∷ xs) t l (λ _. Unit {0})) (j i : ℕ) (m : Met k g done (x ∷ xs) (t j) j (l j)) (hi : i < g.count x) where
-    fives : (a : ℕ → ℕ) (ys : List ℕ) → Within g.count ys a → All (λ y. a y < 5) ys
+    fives : (a : ℕ → ℕ) (ys : List ℕ) → Within g.count ys a → AllByRecursion (λ y. a y < 5) ys
     fives a ys h = All-weaker (λ y. a y < g.count y) _ (λ y b. omega (arith, small y)) ys h
 
     -- one that agrees with a on the frontier costs no less, and has the same number after
@@ -112,9 +112,9 @@ module _ {P : Type 0} (k : Kind P) (g : Model P) where
     follows b v e bi =
         let a = l j in
         let fr = front k g done (x ∷ xs) in
-        let on : All (λ y. a y ≡ b y) fr = number_same fr a b (fives a fr (all_kept_by _ (λ y. a y < g.count y) done m.valid)) (fives b fr (all_kept_by _ (λ y. b y < g.count y) done v.1)) (m.place ∙ sym e) in
+        let on : AllByRecursion (λ y. a y ≡ b y) fr = number_same fr a b (fives a fr (all_kept_by _ (λ y. a y < g.count y) done m.valid)) (fives b fr (all_kept_by _ (λ y. b y < g.count y) done v.1)) (m.place ∙ sym e) in
         let next = front k g (x ∷ done) xs in
-        let same : All (λ y. b y ≡ put a x i y) next = all_from_in _ next (λ y my. let r = kept_in (λ z. reaches k g z xs) (x ∷ done) y my in ⊎_elim
+        let same : AllByRecursion (λ y. b y ≡ put a x i y) next = all_from_in _ next (λ y my. let r = kept_in (λ z. reaches k g z xs) (x ∷ done) y my in ⊎_elim
         (λ q. ap b q ∙ bi ∙ sym (ap (put a x i) q ∙ put_same a x i))
         (λ ne. ⊎_elim (λ q. absurd (ne q))
         (λ my'. sym (put_other a x i y ne ∙ all_in (λ z. a z ≡ b z) fr y on (in_kept (λ z. reaches k g z (x ∷ xs)) done y my' (or_right (linked k g y x) (reaches k g y xs) r.1))))
@@ -130,7 +130,7 @@ module _ {P : Type 0} (k : Kind P) (g : Model P) where
     pub extended : Met k g (x ∷ done) xs (k.sum (beside k g.entries x done i (l j)) (t j)) (number_of (front k g (x ∷ done) xs) (put (l j) x i)) (put (l j) x i)
     extended =
         let a = l j in
-        let off : All (λ y. put a x i y ≡ a y) done = All-weaker (λ y. (y ≢ x)) _ (λ y n. put_other a x i y n) done new in
+        let off : AllByRecursion (λ y. put a x i y ≡ a y) done = All-weaker (λ y. (y ≢ x)) _ (λ y n. put_other a x i y n) done new in
         record {
           valid = (subst (λ n. n < g.count x) (sym (put_same a x i)) hi, all_zip (λ y. put a x i y ≡ a y) (λ y. a y < g.count y) _ (λ y q b. subst (λ n. n < g.count y) (sym q) b) done off m.valid);
           sum = sym (ap₂ k.sum (ap (λ n. beside k g.entries x done n (put a x i)) (put_same a x i) ∙ beside_agree k g.entries x done i _ a off) (sum_over_agree k g.entries done _ a off ∙ sym m.sum));

@@ -1,6 +1,6 @@
 -- Graphs by their content: variables, choice counts, entries; the total of an assignment, and the lowest total.
 use Rattle.std.specs.Prelude.{◌≡◌, ℕ, zero, suc, pred, ◌<◌, true, cond, ◌&&◌, ◌⊎◌, List, [], ◌∷◌, ◌==◌, nat_lt}
-use Rattle.std.specs.List.{AllByRecursion as All}
+use Rattle.std.specs.List.{AllByRecursion}
 use Rattle.prices.specs.declared.price.Price.{Ghosts as Kind}
 use Rattle.graphs.specs.Masks.{mem}
 
@@ -45,7 +45,7 @@ total k g a = sum_over k g.entries g.variables a
 
 -- a gives each of the variables a choice that it has
 abbrev pub Within : (ℕ → ℕ) → List ℕ → (ℕ → ℕ) → Type 0
-Within n xs a = All (λ x. a x < n x) xs
+Within n xs a = AllByRecursion (λ x. a x < n x) xs
 
 abbrev pub Assignment : {P : Type 0} → Model P → (ℕ → ℕ) → Type 0
 Assignment g a = Within g.count g.variables a
@@ -90,11 +90,11 @@ lowest k g = lowest_beside k g.count (total k g) g.variables []
 -- # The variables ascend, and each has a choice
 abbrev pub Ascending : List ℕ → Type 0
 Ascending [] = Unit {0}
-Ascending (x ∷ xs) = All (λ y. x < y) xs × Ascending xs
+Ascending (x ∷ xs) = AllByRecursion (λ y. x < y) xs × Ascending xs
 
 pub record Proper {P : Type 0} (g : Model P) : Type 0 where
   pub ascending : Ascending g.variables
-  pub some : All (λ x. 0 < g.count x) g.variables
+  pub some : AllByRecursion (λ x. 0 < g.count x) g.variables
 
 abbrev pub In : ℕ → List ℕ → Type 0
 In x [] = ⊥

@@ -1,7 +1,7 @@
 -- The lowest total, computed over all choices, is the total of an assignment, and none is lower.
 use Rattle.std.specs.Prelude.{◌≡◌, ℕ, pred, ◌<◌, ◌≤◌, true, List, [], ◌∷◌, ◌==◌, ◌≢◌, refl}
 use Rattle.std.proofs.Common.{sym, ap, ap₂, ◌∙◌, subst, arith}
-use Rattle.std.specs.List.{AllByRecursion as All}
+use Rattle.std.specs.List.{AllByRecursion}
 use Rattle.std.proofs.lemmas.Bool.{cond_both, cond-true, cond-false, eq-eqb, ne_eqb, eqb-true}
 use Rattle.prices.specs.declared.price.Price.{Ghosts as Kind}
 use Rattle.graphs.specs.Model.{Entries, Model, Proper, cost, beside, sum_over, total, Within, Lowest, arg, put, choice_in, lowest_beside, lowest, LowestJoined}
@@ -22,16 +22,16 @@ pub overlay_keeps : (xs : List ℕ) (b a : ℕ → ℕ) (y : ℕ) → a y ≡ b 
 overlay_keeps [] b a y e = e
 overlay_keeps (x ∷ xs) b a y e = overlay_keeps xs b (put a x (b x)) y (cond_both (y == x) (b x) (a y) (λ v. v ≡ b y) (λ t. ap b (sym (eqb-true y x t))) (λ _. e))
 
-pub overlay_at : (xs : List ℕ) (b a : ℕ → ℕ) → All (λ x. overlay xs b a x ≡ b x) xs
+pub overlay_at : (xs : List ℕ) (b a : ℕ → ℕ) → AllByRecursion (λ x. overlay xs b a x ≡ b x) xs
 overlay_at [] b a = tt
 overlay_at (x ∷ xs) b a = (overlay_keeps xs b (put a x (b x)) x (put_same a x (b x)), overlay_at xs b (put a x (b x)))
 
 module _ {P : Type 0} (k : Kind P) where
-  pub beside_agree : (t : Entries P) (u : ℕ) (ys : List ℕ) (i : ℕ) (a b : ℕ → ℕ) → All (λ x. a x ≡ b x) ys → beside k t u ys i a ≡ beside k t u ys i b
+  pub beside_agree : (t : Entries P) (u : ℕ) (ys : List ℕ) (i : ℕ) (a b : ℕ → ℕ) → AllByRecursion (λ x. a x ≡ b x) ys → beside k t u ys i a ≡ beside k t u ys i b
   beside_agree t u [] i a b h = refl
   beside_agree t u (y ∷ ys) i a b h = ap₂ k.sum (ap (cost t u y i) h.0) (beside_agree t u ys i a b h.1)
 
-  pub sum_over_agree : (t : Entries P) (xs : List ℕ) (a b : ℕ → ℕ) → All (λ x. a x ≡ b x) xs → sum_over k t xs a ≡ sum_over k t xs b
+  pub sum_over_agree : (t : Entries P) (xs : List ℕ) (a b : ℕ → ℕ) → AllByRecursion (λ x. a x ≡ b x) xs → sum_over k t xs a ≡ sum_over k t xs b
   sum_over_agree t [] a b h = refl
   sum_over_agree t (x ∷ xs) a b h =
       ap₂ k.sum (ap (λ i. beside k t x xs i a) h.0 ∙ beside_agree t x xs (b x) a b h.1) (sum_over_agree t xs a b h.1)
@@ -49,12 +49,12 @@ module _ {P : Type 0} (k : Kind P) (n : ℕ → ℕ) (f : (ℕ → ℕ) → P) w
   best : (x : ℕ) (xs : List ℕ) (taken : List (ℕ × ℕ)) → 0 < n x → arg k (λ i. lowest_beside k n f xs ((x, i) ∷ taken)) (pred (n x)) < n x
   best x xs taken h = omega (arith, arg_le k (λ i. lowest_beside k n f xs ((x, i) ∷ taken)) (pred (n x)))
 
-  pick_keeps : (xs : List ℕ) (taken : List (ℕ × ℕ)) (y : ℕ) → All (λ x. 0 < n x) xs → choice_in taken y < n y → choice_in (pick_beside k n f xs taken) y < n y
+  pick_keeps : (xs : List ℕ) (taken : List (ℕ × ℕ)) (y : ℕ) → AllByRecursion (λ x. 0 < n x) xs → choice_in taken y < n y → choice_in (pick_beside k n f xs taken) y < n y
   pick_keeps [] taken y some h = h
   pick_keeps (x ∷ xs) taken y some h =
       pick_keeps xs _ y some.1 (cond_both (y == x) _ (choice_in taken y) (λ v. v < n y) (λ t. subst (λ v. arg k (λ i. lowest_beside k n f xs ((x, i) ∷ taken)) (pred (n x)) < n v) (sym (eqb-true y x t)) (best x xs taken some.0)) (λ _. h))
 
-  pick_within : (xs : List ℕ) (taken : List (ℕ × ℕ)) → All (λ x. 0 < n x) xs → Within n xs (choice_in (pick_beside k n f xs taken))
+  pick_within : (xs : List ℕ) (taken : List (ℕ × ℕ)) → AllByRecursion (λ x. 0 < n x) xs → Within n xs (choice_in (pick_beside k n f xs taken))
   pick_within [] taken some = tt
   pick_within (x ∷ xs) taken some =
       (pick_keeps xs _ x some.1 (subst (λ v. v < n x) (sym (put_same (choice_in taken) x _)) (best x xs taken some.0)), pick_within xs _ some.1)

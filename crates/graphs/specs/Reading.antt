@@ -1,7 +1,7 @@
 -- What is read of a graph's prices is what its model has.
 use Rattle.std.specs.Prelude.{◌≡◌, ℕ, zero, suc, ◌<◌, ◌≤◌, Bool, true, false, cond, ◌&&◌, ◌||◌, List, [], ◌∷◌, filter, ◌==◌, ◌≢◌, nat_lt, refl}
 use Rattle.std.proofs.Common.{sym, ap, ◌∙◌, inl, inr, ⊎_elim, arith}
-use Rattle.std.specs.List.{AllByRecursion as All}
+use Rattle.std.specs.List.{AllByRecursion}
 use Rattle.std.proofs.ByRecursion.{All-weaker, all_kept_by, kept_by_passes}
 use Rattle.std.proofs.lemmas.Bool.{and_from, and_right, cases_Bool, cases_order, cond_both, cond-true, cond-false, eqb-true, eq-eqb, both_ways, lt-ltb, le-ltb, or_cases, or_left, or_right}
 use Rattle.prices.specs.declared.price.Price.{Ghosts as Kind}
@@ -51,7 +51,7 @@ pub in_mem : (x : ℕ) (xs : List ℕ) → mem x xs ≡ true → In x xs
 in_mem x [] e = absurd (both_ways false refl e)
 in_mem x (y ∷ ys) e = ⊎_elim (λ q. inl (eqb-true x y q)) (λ q. inr (in_mem x ys q)) (or_cases (x == y) (mem x ys) e)
 
-up_above : (v n : ℕ) → All (λ y. v ≤ y) (up_from v n)
+up_above : (v n : ℕ) → AllByRecursion (λ y. v ≤ y) (up_from v n)
 up_above v zero = tt
 up_above v (suc n) = (omega arith, All-weaker (λ y. suc v ≤ y) _ (λ y h. omega arith) (up_from (suc v) n) (up_above (suc v) n))
 
@@ -63,10 +63,10 @@ pub members_ascend : (m : ℕ) → Ascending (members m)
 unfolding twelve
 members_ascend m = asc_kept (has m) twelve (up_ascending 0 12)
 
-pub members_have : (m : ℕ) → All (λ v. has m v ≡ true) (members m)
+pub members_have : (m : ℕ) → AllByRecursion (λ v. has m v ≡ true) (members m)
 members_have m = kept_by_passes (has m) twelve
 
-pub members_below_lem : (m : ℕ) → All (λ v. v < 12) (members m)
+pub members_below_lem : (m : ℕ) → AllByRecursion (λ v. v < 12) (members m)
 members_below_lem m = all_kept_by (has m) (λ v. v < 12) twelve all_twelve
 
 -- # Counts and entries

@@ -2,7 +2,7 @@
 use Rattle.std.specs.Prelude.{◌≡◌, ℕ, zero, suc, ◌+◌, ◌<◌, ◌≤◌, Bool, true, false, cond, ◌⊎◌, List, [], ◌∷◌, length, take, ◌≢◌, nat_lt, slice_index_or, slice_set, refl}
 use Rattle.std.proofs.Common.{sym, ap, ap₂, ◌∙◌, subst, inl, inr, ⊎_elim, arith, length-set, get_or-set_same, get_or-set_other}
 use Rattle.std.proofs.Math.Path.{fun_ext}
-use Rattle.std.specs.List.{AllByRecursion as All}
+use Rattle.std.specs.List.{AllByRecursion}
 use Rattle.std.proofs.ByRecursion.{All-weaker, all_kept_by}
 use Rattle.std.proofs.lemmas.List.{take-set-le}
 use Rattle.std.proofs.lemmas.Bool.{both_ways, cond-true, cond-false, cond_both, cases_eq, cases_lt, cases_Bool, lt-ltb, le-ltb}
@@ -57,15 +57,15 @@ in_below p (suc v) y h e = ⊎_elim
     (λ l. let q : y ≡ v = omega arith in subst (In y) (sym (cond-true (has p v) (v ∷ members_below p v) (members_below p v) (ap (has p) (sym q) ∙ e))) (inl q))
     (cases_lt y v)
 
-pub all_small : (p v : ℕ) (xs : List ℕ) → All (λ y. pick_of xs y < 5) (members_below p v) → Five p v xs
+pub all_small : (p v : ℕ) (xs : List ℕ) → AllByRecursion (λ y. pick_of xs y < 5) (members_below p v) → Five p v xs
 all_small p v xs h y l e = all_in (λ z. pick_of xs z < 5) (members_below p v) y h (in_below p v y l e)
 
 pub next_count : {P : Type 0} (k : Kind P) (g : Graph) (m : List P) (v mask : ℕ) → Next k g m v mask → (n : ℕ) → n ≡ count_at g v → n ≡ (model_in k g m).count v
 next_count k g m v mask next n e = e ∙ sym (count_read k g m v next.variable next.present)
 
-below_apart : (p v x : ℕ) → v ≤ x → All (λ y. (y ≢ x)) (members_below p v)
+below_apart : (p v x : ℕ) → v ≤ x → AllByRecursion (λ y. (y ≢ x)) (members_below p v)
 below_apart p zero x h = tt
-below_apart p (suc v) x h = cond_both (has p v) (v ∷ members_below p v) (members_below p v) (All (λ y. (y ≢ x))) (λ _. ((λ e. omega arith), below_apart p v x (omega arith))) (λ _. below_apart p v x (omega arith))
+below_apart p (suc v) x h = cond_both (has p v) (v ∷ members_below p v) (members_below p v) (AllByRecursion (λ y. (y ≢ x))) (λ _. ((λ e. omega arith), below_apart p v x (omega arith))) (λ _. below_apart p v x (omega arith))
 
 module _ {P : Type 0} (k : Kind P) (g : Graph) (pr : List P) (v fr : ℕ) (n : Next k g pr v fr) (t : ℕ → P) (l : ℕ → ℕ → ℕ) (before : KeptAt k g pr v t l Every) where
   abbrev xs : List ℕ
@@ -132,7 +132,7 @@ module _ {P : Type 0} (k : Kind P) (g : Graph) (pr : List P) (v fr : ℕ) (n : N
     ext = extended k md v xs done t l (count_few k g pr) (below_apart g.present v v (omega arith)) old j i kept_there hi
 
     pub set_small : (xs2 : List ℕ) → pick_of xs2 ≡ put (l j) v i → Five fr (v + 1) xs2
-    set_small xs2 e = all_small fr (v + 1) xs2 (subst (λ f. All (λ y. pick_of xs2 y < 5) f) (sym (n.members ∙ is_next)) (subst (λ a. All (λ y. a y < 5) (front k md (v ∷ done) xs)) (sym e)
+    set_small xs2 e = all_small fr (v + 1) xs2 (subst (λ f. AllByRecursion (λ y. pick_of xs2 y < 5) f) (sym (n.members ∙ is_next)) (subst (λ a. AllByRecursion (λ y. a y < 5) (front k md (v ∷ done) xs)) (sym e)
         (all_kept_by (λ y. reaches k md y xs) (λ y. put (l j) v i y < 5) (v ∷ done) (All-weaker (λ y. put (l j) v i y < (model_in k g pr).count y) (λ y. put (l j) v i y < 5) (λ y b. omega (arith, count_few k g pr y)) (v ∷ done) ext.valid))))
 
     pub turn_more : (t2 : ℕ → P) (l2 : ℕ → ℕ → ℕ) → KeptAt k g pr (v + 1) t2 l2 (Before k g pr v j i) →
