@@ -1,7 +1,7 @@
 // A plain price as a value: one number.
 ghost use Rattle.std.specs.Prelude.{◌≡◌, ◌≤◌};
 
-#[derive(Clone, Copy, PartialEq, Eq)]
+#[derive(Clone, Copy, PartialEq, Eq, PartialOrd, Ord)]
 pub struct Plain {
     pub(crate) value: u32,
     ghost fits: { value ≤ 4294967295 },

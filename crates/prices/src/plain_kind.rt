@@ -44,15 +44,15 @@ impl Price for Plain {
     }
 
     fn at_most(self, other: Plain) -> bool {
-        self.value <= other.value
+        self <= other
     }
 
     fn access_price(weight: u8) -> Plain {
-        Plain::new(3 * weight as u32)
+        Plain::new(3 * u32::from(weight))
     }
 
     fn move_price(weight: u8) -> Plain {
-        Plain::new(weight as u32)
+        Plain::new(u32::from(weight))
     }
 }
 
@@ -60,11 +60,10 @@ impl fmt::Display for Plain {
     ghost output = { λ p. Some (plain_words p) };
 
     fn fmt<W: fmt::Write>(&self, f: &mut fmt::Formatter<W>) -> fmt::Result {
-        let value = self.value;
-        if value == u32::MAX {
+        if self.value == u32::MAX {
             write!(f, "top")
         } else {
-            write!(f, "{value}")
+            write!(f, "{}", self.value)
         }
     }
 }

@@ -1,7 +1,7 @@
 // A ranked price as a value: two numbers, of which the first comes first.
 ghost use Rattle.std.specs.Prelude.{◌≡◌, ◌+◌, ◌*◌, ◌≤◌};
 
-#[derive(Clone, Copy, PartialEq, Eq)]
+#[derive(Clone, Copy, PartialEq, Eq, PartialOrd, Ord)]
 pub struct Ranked {
     pub(crate) first: u16,
     pub(crate) second: u16,

@@ -50,15 +50,15 @@ impl Price for Ranked {
     }
 
     fn at_most(self, other: Ranked) -> bool {
-        self.first < other.first || (self.first == other.first && self.second <= other.second)
+        self <= other
     }
 
     fn access_price(weight: u8) -> Ranked {
-        Ranked::new(weight as u16, 0)
+        Ranked::new(u16::from(weight), 0)
     }
 
     fn move_price(weight: u8) -> Ranked {
-        Ranked::new(0, weight as u16)
+        Ranked::new(0, u16::from(weight))
     }
 }
 
@@ -66,12 +66,10 @@ impl fmt::Display for Ranked {
     ghost output = { λ p. Some (ranked_words p) };
 
     fn fmt<W: fmt::Write>(&self, f: &mut fmt::Formatter<W>) -> fmt::Result {
-        let first = self.first;
-        let second = self.second;
-        if first == u16::MAX {
+        if self.first == u16::MAX {
             write!(f, "top")
         } else {
-            write!(f, "({first}, {second})")
+            write!(f, "({}, {})", self.first, self.second)
         }
     }
 }
