@@ -1,64 +1,54 @@
 -- What is answered of a graph in a memory.
-use Rattle.std.proofs.Common.{◌≡◌, ℕ, zero, suc, ◌+◌, ◌<◌, ◌≤◌, Bool, true, false, cond, not, ◌&&◌, ◌||◌, ltb, List, [], ◌∷◌, map, length, get_or, sym, refl, ap, ◌∙◌, ap₂, ⊎_elim, arith}
+use Rattle.std.proofs.Common.{◌≡◌, ℕ, zero, suc, ◌+◌, ◌<◌, ◌≤◌, Bool, true, false, cond, not, filter, ◌&&◌, ◌||◌, ltb, List, [], ◌∷◌, map, length, take, get_or, sym, refl, ap, ◌∙◌, ap₂, ⊎_elim, arith}
 use mathlib.Core.Path.{fun_ext}
 use lib.ListN.{length-map}
-use Rattle.std.specs.List.{AllByRecursion}
+use Rattle.std.specs.List.{AllByRecursion, list_all}
 use Rattle.std.proofs.ByRecursion.{All-weaker}
 use Rattle.std.proofs.lemmas.List.{ext_get_or, get_or-map, get_or-take}
 use Rattle.std.proofs.lemmas.Bool.{and_parts, cases_Bool, ltb-true}
 use Rattle.prices.specs.declared.price.Price.{Ghosts as Kind}
 use Rattle.graphs.specs.declared.graph.Graph.{Graph}
 use Rattle.graphs.specs.Masks.{has, mem, members, members_from, twelve, up_from}
-use Rattle.graphs.specs.Model.{Model}
+use Rattle.graphs.specs.Model.{Model, LowestJoined}
+use Rattle.graphs.specs.Plain.{lowest_joined}
 use Rattle.graphs.specs.Edges.{edges, EdgesOf}
-use Rattle.graphs.specs.Asked.{all_of, assigns}
+use Rattle.graphs.specs.Asked.{has_pick, assigns}
 use Rattle.graphs.specs.Stored.{count_at, model_in, model_of, pick_of}
-use Rattle.graphs.specs.Taken.{Present, Choice, Taken}
+use Rattle.graphs.specs.Taken.{Present, HasChoice, Taken}
 use Rattle.graphs.specs.Unread.{SameWhereRead, Unread}
 use Rattle.graphs.specs.Places.{vector_at, matrix_at}
 use Rattle.graphs.proofs.Apart.{pair_below}
 use Rattle.graphs.specs.Fronts.{from_members, in_from}
 use Rattle.graphs.specs.Lists.{all_in}
-use Rattle.graphs.specs.Reading.{count_read, in_mem}
+use Rattle.graphs.specs.Reading.{count_read, in_mem, proper}
 use Rattle.graphs.specs.Twelve.{count_fits, none_past}
 use Rattle.graphs.specs.Walk.{from_in, from_out}
 
 -- # Picks that are an assignment
-module _ (t : ℕ → Bool) (p v : ℕ) (h : v < 12) where
-  pub no_choice : (not (has p v) || t v) ≡ false → all_of t (members_from p v) ≡ false
-  no_choice e = ⊎_elim
-      (λ b. ap (all_of t) (from_in p v h b) ∙ ap (λ x. x && all_of t (members_from p (v + 1))) (sym (ap (λ y. not y || t v) b) ∙ e))
-      (λ b. let z : ◌≡◌ {A = Bool} true false = sym (ap (λ y. not y || t v) b) ∙ e in absurd (differ z))
-      (cases_Bool (has p v))
-    where
-      differ : ◌≡◌ {A = Bool} true false → ⊥
-      differ z = let q : ◌≡◌ {A = ℕ} 1 0 = ap (λ b. cond b 1 0) z in omega arith
+pub all_kept : (t p : ℕ → Bool) (xs : List ℕ) → list_all (λ x. not (p x) || t x) xs ≡ list_all t (filter p xs)
+all_kept t p [] = refl
+all_kept t p (x ∷ xs) = go (p x) (all_kept t p xs)
+  where
+    go : (b : Bool) → list_all (λ x. not (p x) || t x) xs ≡ list_all t (filter p xs) → ((not b || t x) && list_all (λ x. not (p x) || t x) xs) ≡ list_all t (cond b (x ∷ filter p xs) (filter p xs))
+    go true e = ap (λ c. t x && c) e
+    go false e = e
 
-  pub some_choice : (not (has p v) || t v) ≡ true → all_of t (members_from p v) ≡ all_of t (members_from p (v + 1))
-  some_choice e = ⊎_elim
-      (λ b. ap (all_of t) (from_in p v h b) ∙ ap (λ x. x && all_of t (members_from p (v + 1))) (sym (ap (λ y. not y || t v) b) ∙ e))
-      (λ b. ap (all_of t) (from_out p v h b))
-      (cases_Bool (has p v))
-
-pub all_set : (t : ℕ → Bool) (p v : ℕ) → v ≡ 12 → all_of t (members_from p v) ≡ true
-all_set t p v e = ap (all_of t) (none_past (has p) v e)
-
-all_same : (s t : ℕ → Bool) (xs : List ℕ) → AllByRecursion (λ x. s x ≡ t x) xs → all_of s xs ≡ all_of t xs
+all_same : (s t : ℕ → Bool) (xs : List ℕ) → AllByRecursion (λ x. s x ≡ t x) xs → list_all s xs ≡ list_all t xs
 all_same s t [] h = refl
 all_same s t (x ∷ xs) h = ap₂ ◌&&◌ h.0 (all_same s t xs h.1)
 
-all_pass : (t : ℕ → Bool) (xs : List ℕ) → all_of t xs ≡ true → AllByRecursion (λ x. t x ≡ true) xs
+all_pass : (t : ℕ → Bool) (xs : List ℕ) → list_all t xs ≡ true → AllByRecursion (λ x. t x ≡ true) xs
 all_pass t [] e = tt
-all_pass t (x ∷ xs) e = let p = and_parts (t x) (all_of t xs) e in (p.0, all_pass t xs p.1)
+all_pass t (x ∷ xs) e = let p = and_parts (t x) (list_all t xs) e in (p.0, all_pass t xs p.1)
 
 module _ {P : Type 0} (k : Kind P) (g : Graph) (m : List P) (xs : List ℕ) where
-  pub assigns_is : assigns (model_in k g m) (pick_of xs) ≡ all_of (λ v. ltb (pick_of xs v) (count_at g v)) (members_from g.present 0)
+  pub assigns_is : assigns (model_in k g m) (pick_of xs) ≡ list_all (has_pick g xs) (members_from g.present 0)
   assigns_is = all_same _ _ (members g.present) (All-weaker (λ y. (0 ≤ y) × (y < 12) × (has g.present y ≡ true)) _
       (λ y q. ap (λ n. ltb (pick_of xs y) n) (count_read k g m y q.1 q.2)) (members g.present) (from_members g.present 12 0 refl))
 
-pub all_taken : (g : Graph) (xs : List ℕ) → all_of (λ v. ltb (pick_of xs v) (count_at g v)) (members_from g.present 0) ≡ true → Taken g 12 xs
+pub all_taken : (g : Graph) (xs : List ℕ) → list_all (has_pick g xs) (members_from g.present 0) ≡ true → Taken g 12 xs
 all_taken g xs e y l b = ltb-true _ _ (all_in (λ v. ltb (pick_of xs v) (count_at g v) ≡ true) (members g.present) y
-    (all_pass (λ v. ltb (pick_of xs v) (count_at g v)) (members g.present) e) (in_from g.present 12 0 y refl (omega arith) l b))
+    (all_pass (has_pick g xs) (members g.present) e) (in_from g.present 12 0 y refl (omega arith) l b))
 
 -- # Edges of all twelve
 get_d_up : (a n v : ℕ) → v < n → get_or (up_from a n) v 0 ≡ a + v
@@ -91,16 +81,16 @@ present_of g v e =
     let q = all_in (λ y. (0 ≤ y) × (y < 12) × (has g.present y ≡ true)) (members g.present) v (from_members g.present 12 0 refl) (in_mem v (members g.present) e) in
     record { variable = q.1; present = q.2 }
 
-choice_of : (g : Graph) (v i : ℕ) → (mem v (members g.present) && ltb i (count_at g v)) ≡ true → Choice g v i
+choice_of : (g : Graph) (v i : ℕ) → (mem v (members g.present) && ltb i (count_at g v)) ≡ true → HasChoice g v i
 choice_of g v i e =
     let q = and_parts (mem v (members g.present)) (ltb i (count_at g v)) e in
     let p = present_of g v q.0 in
     record { variable = p.variable; present = p.present; within = ltb-true _ _ q.1 }
 
-vector_below : (g : Graph) (v i : ℕ) → Choice g v i → vector_at v i < 1710
+vector_below : (g : Graph) (v i : ℕ) → HasChoice g v i → vector_at v i < 1710
 vector_below g v i c = omega (arith, c.variable, c.within, (count_fits g.counts v g.counted).1)
 
-matrix_below : (g : Graph) (u v i j : ℕ) → Choice g u i → Choice g v j → u < v → matrix_at u v i j < 1710
+matrix_below : (g : Graph) (u v i j : ℕ) → HasChoice g u i → HasChoice g v j → u < v → matrix_at u v i j < 1710
 matrix_below g u v i j c d l = omega (arith, c.within, d.within, (count_fits g.counts u g.counted).1, (count_fits g.counts v g.counted).1, pair_below u v l d.variable)
 
 module _ {P : Type 0} (k : Kind P) (g h : Graph) (a b : List P) (s : SameWhereRead k g h a b) where
@@ -139,3 +129,7 @@ module _ {P : Type 0} (k : Kind P) (g h : Graph) (a b : List P) (s : SameWhereRe
 
 pub unread : {P : Type 0} (k : Kind P) → Unread k
 unread k g h a b s = one_model k g h a b s
+
+-- # The lowest total
+pub lowest_stands : {P : Type 0} (k : Kind P) (g : Graph) (m : List P) → LowestJoined k (model_of k g m)
+lowest_stands k g m = lowest_joined k (model_of k g m) (proper k g (take 1710 m))

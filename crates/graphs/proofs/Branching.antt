@@ -2,27 +2,23 @@
 use Rattle.std.proofs.Common.{◌≡◌, ℕ, ◌≤◌, true, false, List, [], take, None, Ok, Err, sym, ap, ◌∙◌, subst, ap₂}
 use Rattle.prices.specs.declared.price.Price.{Ghosts as Kind}
 use Rattle.graphs.specs.declared.graph.Graph.{Graph}
-use Rattle.graphs.specs.declared.search.Best.{Best}
-use Rattle.graphs.specs.declared.fault.Cause.TheVariants.{NothingFits}
+use Rattle.graphs.specs.declared.best.Best.{Best}
 use Rattle.graphs.specs.Masks.{members_from, members_below}
 use Rattle.graphs.specs.Model.{lowest, Lowest}
 use Rattle.graphs.specs.Search.{search, searched}
 use Rattle.graphs.specs.Holding.{found_in}
 use Rattle.graphs.specs.Stored.{model_in, model_of, pick_of}
-use Rattle.graphs.specs.Outcome.{outcome, refused, Chosen}
+use Rattle.graphs.specs.Outcome.{outcome, fitted, Chosen}
 use Rattle.graphs.specs.Bounded.{searched_lowest, searched_found, searched_stays}
 use Rattle.graphs.specs.Reading.{proper}
-use Rattle.graphs.specs.Outcomes.{outcome_long, fitted_top, fitted_below}
+use Rattle.graphs.specs.Outcomes.{outcome_long}
 
 module _ {P : Type 0} (k : Kind P) (g : Graph) (m : List P) (xs : List ℕ) (b : Best P) (is : found_in b ≡ searched k (model_of k g m) (pick_of xs)) where
   price_is : b.price ≡ lowest k (model_of k g m)
   price_is = ap (λ h. h.price) is ∙ searched_lowest k (model_of k g m) (proper k g (take 1710 m)) (pick_of xs)
 
-  pub answers_top : (len : ℕ) → 2010 ≤ len → k.at_most k.greatest b.price ≡ true → Err (refused NothingFits) ≡ outcome k 2010 None (model_of k g m) len
-  answers_top len h d = sym (outcome_long k 2010 None (model_of k g m) len h ∙ fitted_top k _ (ap (k.at_most k.greatest) (sym price_is) ∙ d))
-
-  pub answers : (len : ℕ) → 2010 ≤ len → k.at_most k.greatest b.price ≡ false → Ok b.price ≡ outcome k 2010 None (model_of k g m) len
-  answers len h d = ap Ok price_is ∙ sym (outcome_long k 2010 None (model_of k g m) len h ∙ fitted_below k _ (ap (k.at_most k.greatest) (sym price_is) ∙ d))
+  pub answers : (len : ℕ) → 2010 ≤ len → outcome k 2010 None (model_of k g m) len ≡ fitted k b.price
+  answers len h = outcome_long k 2010 None (model_of k g m) len h ∙ ap (fitted k) (sym price_is)
 
   pub chosen : k.at_most k.greatest b.price ≡ false → Chosen k (model_of k g m) b.price xs b.picks
   chosen d = record {
@@ -32,9 +28,7 @@ module _ {P : Type 0} (k : Kind P) (g : Graph) (m : List P) (xs : List ℕ) (b :
   }
 
 -- the start of the search
-pub begins : {P : Type 0} (k : Kind P) (g : Graph) (m part : List P) (xs : List ℕ) (z t : P) (b : Best P) → part ≡ take 1710 m → z ≡ k.least → t ≡ k.greatest →
-    found_in b ≡ search k (model_in k g part) (members_from g.present 0) (members_below g.present 0) (pick_of xs) z (record { price = t; choices = pick_of xs }) →
-    found_in b ≡ searched k (model_of k g m) (pick_of xs)
-begins k g m part xs z t b e ez et h = h
-    ∙ ap (λ l. search k (model_in k g l) (members_from g.present 0) [] (pick_of xs) z (record { price = t; choices = pick_of xs })) e
-    ∙ ap₂ (λ y s. search k (model_of k g m) (members_from g.present 0) [] (pick_of xs) y (record { price = s; choices = pick_of xs })) ez et
+pub begins : {P : Type 0} (k : Kind P) (g : Graph) (m : List P) (xs : List ℕ) (z t : P) (b : Best P) → z ≡ k.least → t ≡ k.greatest →
+    found_in b ≡ search k (model_in k g m) (members_from g.present 0) (members_below g.present 0) (pick_of xs) z (record { price = t; choices = pick_of xs }) →
+    found_in b ≡ searched k (model_in k g m) (pick_of xs)
+begins k g m xs z t b ez et h = h ∙ ap₂ (λ y s. search k (model_in k g m) (members_from g.present 0) [] (pick_of xs) y (record { price = s; choices = pick_of xs })) ez et

@@ -2,15 +2,21 @@
 use Rattle.std.specs.Prelude.{◌≡◌, ℕ, ◌<◌, Bool, true, not, ◌&&◌, ◌≢◌, List, ◌==◌, count_ones, slice_index}
 use Rattle.prices.specs.declared.price.Price.{Ghosts as Kind}
 use Rattle.graphs.specs.Masks.{has, mask_by, mem, some_below}
-use Rattle.graphs.specs.Model.{Model, In, cost}
+use Rattle.graphs.specs.Model.{Entries, Model, In, cost}
 
 -- whether choice i of u with choice j of v has a price other than zero
-abbrev pub priced : {P : Type 0} → Kind P → Model P → ℕ → ℕ → ℕ → ℕ → Bool
-priced k g u v i j = not (k.at_most (cost g.entries u v i j) k.least)
+abbrev pub priced_in : {P : Type 0} → Kind P → Entries P → ℕ → ℕ → ℕ → ℕ → Bool
+priced_in k e u v i j = not (k.at_most (cost e u v i j) k.least)
 
--- whether some entry of their matrix, within their counts, is not zero
+-- whether some entry of their matrix, within the counts n, is not zero
+abbrev pub linked_in : {P : Type 0} → Kind P → (ℕ → ℕ) → Entries P → ℕ → ℕ → Bool
+linked_in k n e u v = some_below (n u) (λ i. some_below (n v) (priced_in k e u v i))
+
+abbrev pub priced : {P : Type 0} → Kind P → Model P → ℕ → ℕ → ℕ → ℕ → Bool
+priced k g = priced_in k g.entries
+
 abbrev pub linked : {P : Type 0} → Kind P → Model P → ℕ → ℕ → Bool
-linked k g u v = some_below (g.count u) (λ i. some_below (g.count v) (priced k g u v i))
+linked k g = linked_in k g.count g.entries
 
 -- whether u and v are two present variables with such an entry
 abbrev pub edge : {P : Type 0} → Kind P → Model P → ℕ → ℕ → Bool

@@ -1,28 +1,29 @@
 -- What elimination answers.
-use Rattle.std.specs.Prelude.{◌≡◌, ℕ, zero, suc, ◌+◌, ◌<◌, ◌≤◌, Bool, true, false, cond, ◌&&◌, List, [], ◌∷◌, length, get_or, Some, None, Ok, Err, Option, count_ones, nat_lt, slice_index, slice_index_or, slice_set, refl}
+use Rattle.std.specs.Prelude.{◌≡◌, ℕ, zero, suc, ◌+◌, ◌<◌, ◌≤◌, Bool, true, false, cond, ◌&&◌, List, [], ◌∷◌, length, get_or, Some, None, Ok, Err, Option, Result, count_ones, nat_lt, slice_index, slice_index_or, slice_set, refl}
 use Rattle.std.proofs.Common.{sym, ◌∙◌, subst, ⊎_elim, arith, get_or-set_same, get_or-set_other}
 use Rattle.std.proofs.Math.Path.{ap, ap₂}
-use Rattle.std.specs.List.{AllByRecursion}
+use Rattle.std.specs.List.{AllByRecursion, find}
 use Rattle.std.proofs.lemmas.Bool.{cases_eq}
 use Rattle.prices.specs.declared.price.Price.{Ghosts as Kind}
 use Rattle.graphs.specs.declared.graph.Graph.{Graph}
-use Rattle.graphs.specs.declared.fault.Cause.TheVariants.{TurnedAway, NothingFits}
+use Rattle.graphs.specs.declared.best.Best.{Best}
+use Rattle.graphs.specs.declared.fault.Fault.{Fault}
+use Rattle.graphs.specs.declared.fault.Cause.TheVariants.{TurnedAway}
 use Rattle.graphs.specs.Masks.{has, mem, twelve, up_from}
 use Rattle.graphs.specs.Model.{Model, lowest}
 use Rattle.graphs.specs.Edges.{edges, EdgesOf}
-use Rattle.graphs.specs.Frontier.{frontier_by, too_wide, first_of, widest, at_depth_zero}
-use Rattle.graphs.specs.Kept.{table_of, KeptAt, Every, Narrow, Swept}
+use Rattle.graphs.specs.Frontier.{frontier_by, too_wide, widest, at_depth_zero}
+use Rattle.graphs.specs.Kept.{prices_in, KeptAt, Every, Narrow, Swept}
 use Rattle.graphs.specs.Outcome.{outcome, settled, fitted, refused}
-use Rattle.graphs.specs.Stored.{model_in}
+use Rattle.graphs.specs.Stored.{model_in, pick_of}
 use Rattle.graphs.specs.Bitwise.{on_twelve, all_twelve}
 use Rattle.graphs.specs.Ending.{begun_table, swept_lowest}
 use Rattle.graphs.specs.Fronts.{frontier_same}
 use Rattle.graphs.specs.Outcomes.{outcome_long, fitted_top, fitted_below}
 use Rattle.graphs.specs.Reading.{mem_members}
-use Rattle.graphs.specs.Turning.{table_at}
 
 -- # The first that passes a test
-first_same : (s t : ℕ → Bool) (xs : List ℕ) → AllByRecursion (λ x. s x ≡ t x) xs → first_of s xs ≡ first_of t xs
+first_same : (s t : ℕ → Bool) (xs : List ℕ) → AllByRecursion (λ x. s x ≡ t x) xs → find s xs ≡ find t xs
 first_same s t [] h = refl
 first_same s t (x ∷ xs) h = ap₂ (λ b o. cond b (Some x) o) h.0 (first_same s t xs h.1)
 
@@ -30,11 +31,11 @@ abbrev is_some : {X : Type 0} → Option X → ℕ
 is_some None = 0
 is_some (Some x) = 1
 
-first_all : (t : ℕ → Bool) (xs : List ℕ) → first_of t xs ≡ None → AllByRecursion (λ x. t x ≡ false) xs
+first_all : (t : ℕ → Bool) (xs : List ℕ) → find t xs ≡ None → AllByRecursion (λ x. t x ≡ false) xs
 first_all t [] e = tt
 first_all t (x ∷ xs) e = go (t x) refl e (first_all t xs)
   where
-    go : (b : Bool) → t x ≡ b → cond b (Some x) (first_of t xs) ≡ None → (first_of t xs ≡ None → AllByRecursion (λ y. t y ≡ false) xs) → (t x ≡ false) × AllByRecursion (λ y. t y ≡ false) xs
+    go : (b : Bool) → t x ≡ b → cond b (Some x) (find t xs) ≡ None → (find t xs ≡ None → AllByRecursion (λ y. t y ≡ false) xs) → (t x ≡ false) × AllByRecursion (λ y. t y ≡ false) xs
     go true q h f = let z : ◌≡◌ {A = ℕ} 1 0 = ap is_some h in absurd (omega arith)
     go false q h f = (q, f h)
 
@@ -42,11 +43,11 @@ abbrev place_or : ℕ → Option ℕ → ℕ
 place_or d None = d
 place_or d (Some v) = v
 
-first_below : (t : ℕ → Bool) (xs : List ℕ) → AllByRecursion (λ x. x < 12) xs → place_or 0 (first_of t xs) < 12
+first_below : (t : ℕ → Bool) (xs : List ℕ) → AllByRecursion (λ x. x < 12) xs → place_or 0 (find t xs) < 12
 first_below t [] h = omega arith
 first_below t (x ∷ xs) h = go (t x) (first_below t xs h.1)
   where
-    go : (b : Bool) → place_or 0 (first_of t xs) < 12 → place_or 0 (cond b (Some x) (first_of t xs)) < 12
+    go : (b : Bool) → place_or 0 (find t xs) < 12 → place_or 0 (cond b (Some x) (find t xs)) < 12
     go true f = h.0
     go false f = f
 
@@ -82,7 +83,7 @@ module _ {P : Type 0} (k : Kind P) where
 
   pub named_within : (g : Model P) (v d : ℕ) → at_depth_zero (widest k g) ≡ Some (v, d) → (v ≤ 11) × (d ≤ 255)
   unfolding widest
-  named_within g v d e = named_at (first_of (too_wide k g) twelve) v d (first_below (too_wide k g) twelve all_twelve) e
+  named_within g v d e = named_at (find (too_wide k g) twelve) v d (first_below (too_wide k g) twelve all_twelve) e
 
   pub none_narrow : (g : Model P) → None ≡ widest k g → Narrow k g
   unfolding widest
@@ -90,19 +91,22 @@ module _ {P : Type 0} (k : Kind P) where
 
   -- found by the array of edges
   pub widest_found : (g : Graph) (m : List P) (es : List ℕ) → EdgesOf k (model_in k g m) es →
-      first_of (λ v. has g.present v && nat_lt 3 (count_ones (frontier_by (λ y. slice_index es y) v))) twelve ≡ widest k (model_in k g m)
+      find (λ v. has g.present v && nat_lt 3 (count_ones (frontier_by (λ y. slice_index es y) v))) twelve ≡ widest k (model_in k g m)
   unfolding widest
   widest_found g m es h = first_same _ (too_wide k (model_in k g m)) twelve (on_twelve _ (λ v l.
       ap₂ (λ a b. a && nat_lt 3 (count_ones b)) (sym (mem_members g.present v l)) (frontier_same (λ y. slice_index es y) (edges k (model_in k g m)) v h)))
 
 -- # The first table
-pub first_table : {P : Type 0} (k : Kind P) (g : Graph) (pr mem m2 : List P) (z : P) (l : ℕ → ℕ → ℕ) → m2 ≡ slice_set mem 1710 z → z ≡ k.least → 1835 ≤ length mem →
-    ((c : ℕ) → c < 125 → slice_index_or mem (1710 + c) k.greatest ≡ k.greatest) → KeptAt k g pr 0 (table_of k m2 1710) l Every
-first_table k g pr mem m2 z l e ez long h = begun_table k g pr (table_of k m2 1710) l
-    (table_at k m2 1710 0 (omega arith) ∙ ap (λ x. get_or x 1710 k.greatest) e ∙ get_or-set_same mem 1710 z k.greatest (omega arith) ∙ ez)
-    (λ c b ne. table_at k m2 1710 c b ∙ ap (λ x. get_or x (1710 + c) k.greatest) e ∙ get_or-set_other mem 1710 (1710 + c) z k.greatest (λ q. ne (omega arith)) ∙ h c b)
+pub first_table : {P : Type 0} (k : Kind P) (g : Graph) (pr : List P) (t : List P) (l : ℕ → ℕ → ℕ) → prices_in k t 0 ≡ k.least → ((c : ℕ) → 0 < c → prices_in k t c ≡ k.greatest) →
+    KeptAt k g pr 0 (prices_in k t) l Every
+first_table k g pr t l e h = begun_table k g pr (prices_in k t) l e (λ c b ne. h c (omega arith))
 
 -- # The answers
+-- what is found of a graph, or that it is turned away
+abbrev pub SweptUnlessTurned : {P : Type 0} → Kind P → Graph → List P → Result (Best P) Fault → Type 0
+SweptUnlessTurned k g pr (Ok b) = (None ≡ widest k (model_in k g pr)) × Swept k g pr b.price (pick_of b.picks)
+SweptUnlessTurned k g pr (Err f) = (v : ℕ) × (Some v ≡ widest k (model_in k g pr)) × (f ≡ refused (TurnedAway v 0))
+
 module _ {P : Type 0} (k : Kind P) (g : Graph) (pr : List P) (len : ℕ) (long : 2010 ≤ len) where
   abbrev md : Model P
   md = model_in k g pr
@@ -110,12 +114,5 @@ module _ {P : Type 0} (k : Kind P) (g : Graph) (pr : List P) (len : ℕ) (long :
   pub answer_turned : (x : ℕ) → Some x ≡ widest k md → Err (refused (TurnedAway x 0)) ≡ outcome k 2010 (at_depth_zero (widest k md)) md len
   answer_turned x e = sym (outcome_long k 2010 (at_depth_zero (widest k md)) md len long ∙ ap (λ o. settled k (at_depth_zero o) (lowest k md)) (sym e))
 
-  module _ (none : None ≡ widest k md) (p : P) (a : ℕ → ℕ) (s : Swept k g pr p a) where
-    answer : outcome k 2010 (at_depth_zero (widest k md)) md len ≡ fitted k p
-    answer = outcome_long k 2010 (at_depth_zero (widest k md)) md len long ∙ ap₂ (λ o z. settled k (at_depth_zero o) z) (sym none) (sym (swept_lowest k g pr p a s))
-
-    pub answer_top : k.at_most k.greatest p ≡ true → Err (refused NothingFits) ≡ outcome k 2010 (at_depth_zero (widest k md)) md len
-    answer_top d = sym (answer ∙ fitted_top k p d)
-
-    pub answer_found : k.at_most k.greatest p ≡ false → Ok p ≡ outcome k 2010 (at_depth_zero (widest k md)) md len
-    answer_found d = sym (answer ∙ fitted_below k p d)
+  pub answer_swept : None ≡ widest k md → (p : P) (a : ℕ → ℕ) → Swept k g pr p a → outcome k 2010 (at_depth_zero (widest k md)) md len ≡ fitted k p
+  answer_swept none p a s = outcome_long k 2010 (at_depth_zero (widest k md)) md len long ∙ ap₂ (λ o z. settled k (at_depth_zero o) z) (sym none) (sym (swept_lowest k g pr p a s))

@@ -1,6 +1,7 @@
 -- The end of the sweep, and what it answers.
-use Rattle.std.specs.Prelude.{◌≡◌, ℕ, zero, suc, ◌+◌, ◌<◌, ◌≤◌, true, false, cond, ◌&&◌, ltb, ◌⊎◌, List, [], ◌∷◌, length, filter, ◌≢◌, count_ones, nat_lt, slice_index, refl}
-use Rattle.std.proofs.Common.{sym, ap, ap₂, ◌∙◌, subst, inl, inr, ⊎_elim, append-nil, arith}
+use Rattle.std.specs.Prelude.{◌≡◌, ℕ, zero, suc, ◌+◌, ◌<◌, ◌≤◌, true, false, cond, ◌&&◌, ltb, ◌⊎◌, List, [], ◌∷◌, ◌++◌, take, length, filter, ◌≢◌, count_ones, nat_lt, slice_index, refl}
+use Rattle.std.proofs.Common.{sym, ap, ap₂, ◌∙◌, subst, inl, inr, ⊎_elim, append-nil, arith, length-take}
+use Rattle.std.proofs.Math.Seq.{take-append_seam}
 use Rattle.std.specs.List.{AllByRecursion}
 use Rattle.std.proofs.ByRecursion.{All-weaker}
 use Rattle.std.proofs.lemmas.Bool.{both_ways, cond-true, cond-false, cases_eq, cases_lt, cases_Bool, lt-ltb, le-ltb, ltb-false}
@@ -9,7 +10,7 @@ use Rattle.graphs.specs.declared.graph.Graph.{Graph}
 use Rattle.graphs.specs.Masks.{has, members, members_from, members_below}
 use Rattle.graphs.specs.Model.{In, sum_over, total, Within, Lowest, lowest}
 use Rattle.graphs.specs.Frontier.{frontier}
-use Rattle.graphs.specs.Kept.{front, number_of, Kept, front_at, KeptAt, Every, Narrow, Apart, Swept}
+use Rattle.graphs.specs.Kept.{front, number_of, Kept, front_at, KeptAt, Every, Narrow, Swept}
 use Rattle.graphs.specs.Outcome.{Chosen}
 use Rattle.graphs.specs.Stored.{model_in, pick_of}
 use Rattle.graphs.specs.Lists.{all_in, in_itself}
@@ -111,12 +112,15 @@ module _ {P : Type 0} (k : Kind P) (g : Graph) (pr : List P) (p : P) (xs chosen 
         (cases_lt y 12);
   }
 
-pub apart_swap : (old new len : ℕ) → Apart old new len → Apart new old len
-apart_swap old new len s = record { room = s.room; old_low = s.new_low; old_high = s.new_high; new_low = s.old_low; new_high = s.old_high; apart = ⊎_elim inr inl s.apart }
-
 -- the table that the sweep starts with
 pub begun_table : {P : Type 0} (k : Kind P) (g : Graph) (pr : List P) (t : ℕ → P) (l : ℕ → ℕ → ℕ) → t 0 ≡ k.least → ((c : ℕ) → c < 125 → (c ≢ 0) → t c ≡ k.greatest) → KeptAt k g pr 0 t l Every
 begun_table k g pr t l e h = record {
   met = λ c b. ⊎_elim (λ q. inr (record { valid = tt; sum = ap t q ∙ e; place = sym q })) (λ ne. inl (h c b ne)) (cases_eq c 0);
   covers = λ b _ _. subst (λ z. k.at_most z k.least ≡ true) (sym e) (k.laws.least k.least);
 }
+
+-- the graph's prices stand whatever lies past them
+pub front_stands : {P : Type 0} (m front rest : List P) → front ≡ take 1710 m → 1710 ≤ length m → take 1710 (front ++ rest) ≡ take 1710 m
+front_stands m front rest e h =
+    let long : length front ≡ 1710 = ap length e ∙ simp length-take (omega (arith, h)) in
+    ap (λ n. take n (front ++ rest)) (sym long) ∙ take-append_seam front rest ∙ e

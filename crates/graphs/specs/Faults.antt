@@ -1,13 +1,7 @@
 -- The solver's part of the table of refusals.
-use Rattle.std.specs.Prelude.{ℕ}
+use Rattle.refusals.specs.declared.told.Told.{Told}
 use Rattle.graphs.specs.declared.fault.Cause.{Cause}
 use Rattle.graphs.specs.declared.fault.Cause.TheVariants.{Short, TurnedAway, NothingFits}
-
--- what the caller is told
-pub record Told : Type 0 where
-  pub number : ℕ
-  pub place : ℕ
-  pub depth : ℕ
 
 abbrev pub told : Cause → Told
 told Short = record { number = 10; place = 0; depth = 0 }

@@ -1,5 +1,6 @@
 -- Frontiers, and which graphs elimination turns away.
-use Rattle.std.specs.Prelude.{ℕ, Bool, cond, ◌&&◌, List, [], ◌∷◌, Some, None, Option, count_ones, nat_le, nat_lt}
+use Rattle.std.specs.Prelude.{ℕ, Bool, cond, ◌&&◌, Some, None, Option, count_ones, nat_le, nat_lt}
+use Rattle.std.specs.List.{find}
 use Rattle.prices.specs.declared.price.Price.{Ghosts as Kind}
 use Rattle.graphs.specs.Masks.{has, mask_by, mem, some_below, twelve}
 use Rattle.graphs.specs.Model.{Model}
@@ -20,14 +21,10 @@ frontier k g x = frontier_by (edges k g) x
 abbrev pub too_wide : {P : Type 0} → Kind P → Model P → ℕ → Bool
 too_wide k g x = mem x g.variables && nat_lt 3 (count_ones (frontier k g x))
 
-abbrev pub first_of : (ℕ → Bool) → List ℕ → Option ℕ
-first_of t [] = None
-first_of t (x ∷ xs) = cond (t x) (Some x) (first_of t xs)
-
 abbrev pub at_depth_zero : Option ℕ → Option (ℕ × ℕ)
 at_depth_zero None = None
 at_depth_zero (Some v) = Some (v, 0)
 
 -- the lowest variable after which the frontier is too wide; shut, since it is large
 unfoldable pub widest : {P : Type 0} → Kind P → Model P → Option ℕ
-widest k g = first_of (too_wide k g) twelve
+widest k g = find (too_wide k g) twelve

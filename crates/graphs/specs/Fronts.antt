@@ -10,7 +10,7 @@ use Rattle.graphs.specs.declared.graph.Graph.{Graph}
 use Rattle.graphs.specs.Masks.{has, kept_below, mask_by, members_from, members_below, twelve}
 use Rattle.graphs.specs.Model.{Model, In}
 use Rattle.graphs.specs.Edges.{linked, edge, edges}
-use Rattle.graphs.specs.Frontier.{reaches_above, frontier_by, frontier, first_of}
+use Rattle.graphs.specs.Frontier.{reaches_above, frontier_by, frontier}
 use Rattle.graphs.specs.Kept.{reaches, front_at, number_of, Five}
 use Rattle.graphs.specs.Stored.{model_in, pick_of}
 use Rattle.graphs.specs.Bitwise.{has_by, by_skip, ones_below}
@@ -72,15 +72,15 @@ module _ {P : Type 0} (k : Kind P) (g : Graph) (m : List P) (v : ℕ) (hv : v < 
       let high : v < z = ltb-true v z up.0 in
       let hz : z < 12 = r.there.0 in
       let joined : edge k md y z ≡ true = sym (has_edges k md y z hz) ∙ up.1 in
-      let there : has g.present z ≡ true = ⊎_elim (λ t. t) (λ f. absurd (both_ways (edge k md y z) (edge_sym k md y z ∙ edge_off k g m z y hz (omega arith) f) joined)) (cases_Bool (has g.present z)) in
+      let there : has g.present z ≡ true = ⊎_elim (λ t. t) (λ f. absurd (both_ways (edge k md y z) (edge_sym k md y z ∙ edge_off k g m z y hz f) joined)) (cases_Bool (has g.present z)) in
       reaches_in k md y later z (in_from g.present (12 - (v + 1)) (v + 1) z (omega arith) (omega arith) hz there)
-      (sym (edge_on k g m y z (omega arith) hz here there (λ q. omega arith)) ∙ joined))
+      (sym (edge_on k g m y z (record { variable = omega arith; present = here }) (record { variable = hz; present = there }) (λ q. omega arith)) ∙ joined))
       (λ e. let r = reaches_found k md y later _ (from_members g.present (12 - (v + 1)) (v + 1) (omega arith)) e in
       let z = r.place in
       let high : v + 1 ≤ z = r.there.0.0 in
       let hz : z < 12 = r.there.0.1 in
       some_at 12 (λ z. nat_lt v z && has (edges k md y) z) z hz
-      (and_from (nat_lt v z) _ (lt-ltb v z (omega arith)) (has_edges k md y z hz ∙ edge_on k g m y z (omega arith) hz here r.there.0.2 (λ q. omega arith) ∙ r.there.1)))
+      (and_from (nat_lt v z) _ (lt-ltb v z (omega arith)) (has_edges k md y z hz ∙ edge_on k g m y z (record { variable = omega arith; present = here }) (record { variable = hz; present = r.there.0.2 }) (λ q. omega arith) ∙ r.there.1)))
 
   -- an absent variable reaches nothing
   nowhere : (y : ℕ) → y < 12 → has g.present y ≡ false → reaches_above (edges k md y) v ≡ false
@@ -88,7 +88,7 @@ module _ {P : Type 0} (k : Kind P) (g : Graph) (m : List P) (v : ℕ) (hv : v < 
       (λ e. let r = some_found 12 (λ z. nat_lt v z && has (edges k md y) z) e in
       let z = r.place in
       let hz : z < 12 = r.there.0 in
-      absurd (both_ways (edge k md y z) (edge_off k g m y z h hz off) (sym (has_edges k md y z hz) ∙ (and_parts (nat_lt v z) (has (edges k md y) z) r.there.1).1)))
+      absurd (both_ways (edge k md y z) (edge_off k g m y z h off) (sym (has_edges k md y z hz) ∙ (and_parts (nat_lt v z) (has (edges k md y) z) r.there.1).1)))
       (λ e. absurd (both_ways false refl e))
 
   abbrev test : ℕ → Bool
@@ -168,16 +168,6 @@ unfolding frontier_by
 frontier_same e f v h = by_same _ _ 12 (λ y l. ap (λ m. nat_le y v && reaches_above m v) (h y l))
 
 -- # The first of the twelve that passes a test
-module _ (t : ℕ → Bool) (v : ℕ) where
-  pub first_here : v < 12 → t v ≡ true → first_of t (drop v twelve) ≡ Some v
-  first_here h e = ap (first_of t) (drop_twelve v h) ∙ cond-true (t v) _ _ e
-
-  pub first_later : v < 12 → t v ≡ false → first_of t (drop v twelve) ≡ first_of t (drop (v + 1) twelve)
-  first_later h e = ap (first_of t) (drop_twelve v h) ∙ cond-false (t v) _ _ e
-
-  pub first_none : v ≡ 12 → first_of t (drop v twelve) ≡ None
-  unfolding twelve
-  first_none e = ap (λ n. first_of t (drop n twelve)) e
 
 -- # Numbers over a mask
 pub five_all : (p v : ℕ) (xs : List ℕ) → Five p v xs → AllByRecursion (λ y. pick_of xs y < 5) (members_below p v)

@@ -1,5 +1,5 @@
 -- What the search holds in its memory.
-use Rattle.graphs.specs.declared.search.Best.{Best}
+use Rattle.graphs.specs.declared.best.Best.{Best}
 use Rattle.graphs.specs.Search.{Found}
 use Rattle.graphs.specs.Stored.{pick_of}
 

@@ -7,14 +7,15 @@ use Rattle.graphs.specs.Masks.{has, mem, some_below}
 use Rattle.graphs.specs.Model.{Model}
 use Rattle.graphs.specs.Edges.{priced, linked, edge, edges, Joined, EdgesByRule}
 use Rattle.graphs.specs.Bitwise.{has_by}
-use Rattle.graphs.specs.Linking.{edge_sym, edges_is}
+use Rattle.graphs.specs.Linking.{edge_sym}
 use Rattle.graphs.specs.Low.{le_same}
 use Rattle.graphs.specs.Reading.{in_mem, mem_in}
 use Rattle.graphs.specs.Twelve.{some_at, some_found}
 
 module _ {P : Type 0} (k : Kind P) (g : Model P) where
   pub has_edges : (u v : ℕ) → v < 12 → has (edges k g u) v ≡ edge k g u v
-  has_edges u v h = ap (λ x. has x v) (sym (edges_is k g u 12 refl)) ∙ has_by (edge k g u) 12 v h
+  unfolding edges
+  has_edges u v h = has_by (edge k g u) 12 v h
 
   found : (u v : ℕ) → v < 12 → has (edges k g u) v ≡ true → Joined k g u v
   found u v h e =

@@ -2,6 +2,8 @@
 use Rattle.std.specs.Prelude.{◌≡◌, ℕ, ◌+◌, ◌*◌, ◌<◌, ◌≤◌, Bool, true, false, cond, ◌||◌, ◌⊎◌, List, [], ◌∷◌, length, filter, nat_lt, slice_index_or}
 use Rattle.prices.specs.declared.price.Price.{Ghosts as Kind}
 use Rattle.graphs.specs.declared.graph.Graph.{Graph}
+use Rattle.graphs.specs.declared.priced.Priced.{Priced}
+use Rattle.graphs.specs.declared.table.Table.{Table}
 use Rattle.graphs.specs.Masks.{has, members_from, members_below}
 use Rattle.graphs.specs.Model.{Model, Within, sum_over}
 use Rattle.graphs.specs.Edges.{linked}
@@ -34,10 +36,9 @@ pub record Kept {P : Type 0} (k : Kind P) (g : Model P) (done later : List ℕ) 
   pub met : (c : ℕ) → c < 125 → (t c ≡ k.greatest) ⊎ Met k g done later (t c) c (l c)
   pub covers : (b : ℕ → ℕ) → Within g.count done b → Q b → k.at_most (t (number_of (front k g done later) b)) (sum_over k g.entries done b) ≡ true
 
--- # In memory
--- the table of 125 prices from a place of the memory on
-abbrev pub table_of : {P : Type 0} → Kind P → List P → ℕ → ℕ → P
-table_of k m at c = cond (nat_lt c 125) (slice_index_or m (at + c) k.greatest) k.greatest
+-- # Tables as they are held
+abbrev pub prices_in : {P : Type 0} → Kind P → List P → ℕ → P
+prices_in k t c = slice_index_or t c k.greatest
 
 abbrev pub picks_in : List (List ℕ) → ℕ → ℕ → ℕ
 picks_in l c = pick_of (slice_index_or l c [])
@@ -50,14 +51,9 @@ front_at k g m v = front k (model_in k g m) (members_below g.present v) (members
 abbrev pub KeptAt : {P : Type 0} → Kind P → Graph → List P → ℕ → (ℕ → P) → (ℕ → ℕ → ℕ) → ((ℕ → ℕ) → Type 0) → Type 0
 KeptAt k g m v t l Q = Kept k (model_in k g m) (members_below g.present v) (members_from g.present v) t l Q
 
--- where the two tables stand: in the free part, apart from each other
-pub record Apart (old new len : ℕ) : Type 0 where
-  pub room : 2010 ≤ len
-  pub old_low : 1710 ≤ old
-  pub old_high : old + 125 ≤ 2010
-  pub new_low : 1710 ≤ new
-  pub new_high : new + 125 ≤ 2010
-  pub apart : (old + 125 ≤ new) ⊎ (new + 125 ≤ old)
+-- the same of a table as it is held
+abbrev pub TableAt : {P : Type 0} → Kind P → Priced P → ℕ → Table P → ((ℕ → ℕ) → Type 0) → Type 0
+TableAt k s v t Q = KeptAt k s.graph s.prices.now v (prices_in k t.prices.now) (picks_in t.picks) Q
 
 -- v is next, and mask is the frontier after it
 pub record Next {P : Type 0} (k : Kind P) (g : Graph) (m : List P) (v mask : ℕ) : Type 0 where

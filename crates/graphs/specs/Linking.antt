@@ -6,10 +6,11 @@ use Rattle.prices.specs.declared.price.Price.{Ghosts as Kind}
 use Rattle.graphs.specs.declared.graph.Graph.{Graph}
 use Rattle.graphs.specs.Masks.{has, mask_by, mem, members, some_below}
 use Rattle.graphs.specs.Model.{Entries, Model, cost}
-use Rattle.graphs.specs.Edges.{priced, linked, edge, edges}
-use Rattle.graphs.specs.Stored.{model_in}
+use Rattle.graphs.specs.Edges.{priced, linked_in, linked, edge, edges}
+use Rattle.graphs.specs.Stored.{stored, count_at, model_in}
 use Rattle.graphs.specs.Bitwise.{has_by, by_set, by_skip}
-use Rattle.graphs.specs.Reading.{mem_members}
+use Rattle.graphs.specs.Reading.{mem_members, count_read, entry_read}
+use Rattle.graphs.specs.Taken.{Present}
 
 -- # Some below
 some_or : (n : ℕ) (s t : ℕ → Bool) → some_below n (λ i. s i || t i) ≡ (some_below n s || some_below n t)
@@ -25,6 +26,10 @@ some_or (suc n) s t = ap (λ b. (s n || t n) || b) (some_or n s t) ∙ swap (s n
 some_same : (n : ℕ) (s t : ℕ → Bool) → ((i : ℕ) → s i ≡ t i) → some_below n s ≡ some_below n t
 some_same zero s t h = refl
 some_same (suc n) s t h = ap₂ ◌||◌ (h n) (some_same n s t h)
+
+some_same_below : (n : ℕ) (s t : ℕ → Bool) → ((i : ℕ) → i < n → s i ≡ t i) → some_below n s ≡ some_below n t
+some_same_below zero s t h = refl
+some_same_below (suc n) s t h = ap₂ ◌||◌ (h n (omega arith)) (some_same_below n s t (λ i l. h i (omega arith)))
 
 some_none : (n : ℕ) → some_below n (λ _. false) ≡ false
 some_none zero = refl
@@ -76,45 +81,29 @@ module _ {P : Type 0} (k : Kind P) (g : Model P) where
       both false false = refl
 
 -- # Edges of a graph in memory
-module _ {P : Type 0} (k : Kind P) (g : Graph) (m : List P) (u v : ℕ) (hu : u < 12) (hv : v < 12) where
-  pub edge_off : has g.present u ≡ false → edge k (model_in k g m) u v ≡ false
-  edge_off e = ap (λ b. ((b && mem v (members g.present)) && not (u == v)) && linked k (model_in k g m) u v) (mem_members g.present u hu ∙ e)
+-- what is read of the prices is what the model has
+pub linked_read : {P : Type 0} (k : Kind P) (g : Graph) (m : List P) (u v : ℕ) → Present g u → Present g v → (u ≢ v) → linked_in k (count_at g) (stored k m) u v ≡ linked k (model_in k g m) u v
+linked_read k g m u v pu pv ne =
+    some_same_below (count_at g u) _ _ (λ i hi. some_same_below (count_at g v) _ _ (λ j hj.
+    ap (λ p. not (k.at_most p k.least)) (entry_read k g m u v i j
+    (record { variable = pu.variable; present = pu.present; within = hi }) (record { variable = pv.variable; present = pv.present; within = hj }) ne)))
+    ∙ ap₂ (λ a b. some_below a (λ i. some_below b (priced k (model_in k g m) u v i)))
+    (sym (count_read k g m u pu.variable pu.present)) (sym (count_read k g m v pv.variable pv.present))
 
-  pub edge_on : has g.present u ≡ true → has g.present v ≡ true → (u ≢ v) → edge k (model_in k g m) u v ≡ linked k (model_in k g m) u v
-  edge_on e d ne = ap₂ (λ a b. ((a && b) && not (u == v)) && linked k (model_in k g m) u v) (mem_members g.present u hu ∙ e) (mem_members g.present v hv ∙ d)
-      ∙ ap (λ b. not b && linked k (model_in k g m) u v) (ne_eqb u v ne)
+module _ {P : Type 0} (k : Kind P) (g : Graph) (m : List P) (u v : ℕ) where
+  pub edge_same : u ≡ v → edge k (model_in k g m) u v ≡ false
+  edge_same e = ap (λ x. edge k (model_in k g m) u x) (sym e) ∙ edge_self k (model_in k g m) u
 
--- the edges of a variable, as a mask
-pub edges_is : {P : Type 0} (k : Kind P) (g : Model P) (v n : ℕ) → n ≡ 12 → mask_by (edge k g v) n ≡ edges k g v
-unfolding edges
-edges_is k g v n e = ap (mask_by (edge k g v)) e
+  pub edge_off : u < 12 → has g.present u ≡ false → edge k (model_in k g m) u v ≡ false
+  edge_off hu e = ap (λ b. ((b && mem v (members g.present)) && not (u == v)) && linked k (model_in k g m) u v) (mem_members g.present u hu ∙ e)
 
--- one variable more, joined to those below it
-module _ {P : Type 0} (k : Kind P) (g : Model P) (v : ℕ) (hv : v < 12) (ys zs : List ℕ) (long : v < length ys)
-    (before : (x : ℕ) → slice_index ys x ≡ cond (nat_lt x v) (mask_by (edge k g x) v) 0)
-    (row : ℕ) (is : row ≡ mask_by (edge k g v) v)
-    (after : (x : ℕ) → slice_index zs x ≡ cond (nat_lt x v && has row x) (bit_or (slice_index (slice_set ys v row) x) ((1 * 2 ^ v) % 2 ^ 16)) (slice_index (slice_set ys v row) x)) where
-  in_row : (x : ℕ) → x < v → has row x ≡ edge k g x v
-  in_row x l = ap (λ m. has m x) is ∙ has_by (edge k g v) v x l ∙ edge_sym k g v x
+  pub edge_on : Present g u → Present g v → (u ≢ v) → edge k (model_in k g m) u v ≡ linked k (model_in k g m) u v
+  edge_on a b ne = ap₂ (λ x y. ((x && y) && not (u == v)) && linked k (model_in k g m) u v)
+      (mem_members g.present u a.variable ∙ a.present) (mem_members g.present v b.variable ∙ b.present)
+      ∙ ap (λ x. not x && linked k (model_in k g m) u v) (ne_eqb u v ne)
 
-  lower : (x : ℕ) → x < v → slice_index zs x ≡ mask_by (edge k g x) (v + 1)
-  lower x l =
-      let old : slice_index_or (slice_set ys v row) x 0 ≡ mask_by (edge k g x) v = get_or-set_other ys v x row 0 (λ e. omega arith) ∙ before x ∙ cond-true (nat_lt x v) _ _ (lt-ltb x v l) in
-      after x ∙ ⊎_elim
-      (λ t. cond-true (nat_lt x v && has row x) _ _ (and_from (nat_lt x v) (has row x) (lt-ltb x v l) (in_row x l ∙ t))
-      ∙ ap (λ m. bit_or m ((1 * 2 ^ v) % 2 ^ 16)) old ∙ by_set (edge k g x) v (omega arith) t)
-      (λ f. cond-false (nat_lt x v && has row x) _ _ (and_right (nat_lt x v) (has row x) (in_row x l ∙ f)) ∙ old ∙ by_skip (edge k g x) v f)
-      (cases_Bool (edge k g x v))
+  pub edge_read : Present g u → Present g v → (u ≢ v) → linked_in k (count_at g) (stored k m) u v ≡ edge k (model_in k g m) u v
+  edge_read a b ne = linked_read k g m u v a b ne ∙ sym (edge_on a b ne)
 
-  others : (x : ℕ) → v ≤ x → slice_index zs x ≡ slice_index (slice_set ys v row) x
-  others x l = after x ∙ cond-false (nat_lt x v && has row x) _ _ (and_left (nat_lt x v) (has row x) (le-ltb x v l))
-
-  pub joined : (x : ℕ) → slice_index zs x ≡ cond (nat_lt x (v + 1)) (mask_by (edge k g x) (v + 1)) 0
-  joined x = ⊎_elim
-      (λ e. ap (λ y. slice_index zs y) e ∙ others v (omega arith) ∙ get_or-set_same ys v row 0 long ∙ is ∙ by_skip (edge k g v) v (edge_self k g v)
-      ∙ sym (ap (λ y. cond (nat_lt y (v + 1)) (mask_by (edge k g y) (v + 1)) 0) e ∙ cond-true (nat_lt v (v + 1)) _ _ (lt-ltb v (v + 1) (omega arith))))
-      (⊎_elim
-      (λ l. lower x l ∙ sym (cond-true (nat_lt x (v + 1)) _ _ (lt-ltb x (v + 1) (omega arith))))
-      (λ l. others x (omega arith) ∙ get_or-set_other ys v x row 0 (λ e. omega arith) ∙ before x ∙ cond-false (nat_lt x v) _ _ (le-ltb x v (omega arith))
-      ∙ sym (cond-false (nat_lt x (v + 1)) _ _ (le-ltb x (v + 1) (omega arith)))))
-      (cases_order x v)
+pub edge_off_right : {P : Type 0} (k : Kind P) (g : Graph) (m : List P) (u v : ℕ) → v < 12 → has g.present v ≡ false → edge k (model_in k g m) u v ≡ false
+edge_off_right k g m u v hv e = edge_sym k (model_in k g m) u v ∙ edge_off k g m v u hv e

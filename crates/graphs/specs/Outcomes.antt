@@ -43,3 +43,19 @@ module _ {P : Type 0} (k : Kind P) where
   nothing_fits need turned g len r proper is e a ok =
       let top : k.greatest ≡ lowest k g = k.laws.no_ties _ _ (when_long turned (lowest k g) (nat_lt len need) (ap number_of (sym is ∙ e))) (k.laws.greatest _) in
       k.laws.no_ties _ _ (k.laws.greatest _) (subst (λ p. k.at_most p (total k g a) ≡ true) (sym top) ((lowest_met k g proper).least a ok))
+
+-- # What follows from a price that fits
+abbrev value_or : {P : Type 0} → P → Result P Fault → P
+value_or d (Ok p) = p
+value_or d (Err f) = d
+
+pub record Fits {P : Type 0} (k : Kind P) (p q : P) : Type 0 where
+  pub below : k.at_most k.greatest p ≡ false
+  pub same : p ≡ q
+
+pub fitted_ok : {P : Type 0} (k : Kind P) (p q : P) → fitted k p ≡ Ok q → Fits k p q
+fitted_ok {P} k p q e = go (k.at_most k.greatest p) refl e
+  where
+    go : (b : Bool) → k.at_most k.greatest p ≡ b → cond b (Err (refused NothingFits)) (Ok p) ≡ Ok q → Fits k p q
+    go true d h = let z : ◌≡◌ {A = ℕ} 12 0 = ap number_of h in absurd (omega arith)
+    go false d h = record { below = d; same = ap (value_or p) h }

@@ -9,7 +9,7 @@ use Rattle.graphs.specs.declared.graph.Graph.{Graph}
 use Rattle.graphs.specs.Masks.{has, up_from, twelve, members, mem}
 use Rattle.graphs.specs.Model.{Proper, Ascending, In, cost}
 use Rattle.graphs.specs.Stored.{stored, count_at, model_in}
-use Rattle.graphs.specs.Taken.{Choice}
+use Rattle.graphs.specs.Taken.{HasChoice}
 use Rattle.graphs.specs.Below.{below}
 use Rattle.graphs.specs.Bitwise.{all_twelve}
 use Rattle.graphs.specs.Lists.{asc_kept, all_any}
@@ -83,18 +83,18 @@ module _ {P : Type 0} (k : Kind P) (g : Graph) (m : List P) where
   pub proper : Proper (model_in k g m)
   proper = record { ascending = members_ascend g.present; some = all_any _ count_some (members g.present) }
 
-  is_choice : (v i : ℕ) → Choice g v i → (mem v (members g.present) && nat_lt i (count_at g v)) ≡ true
+  is_choice : (v i : ℕ) → HasChoice g v i → (mem v (members g.present) && nat_lt i (count_at g v)) ≡ true
   is_choice v i c = and_from _ _ (mem_members g.present v c.variable ∙ c.present) (lt-ltb i (count_at g v) c.within)
 
-  pub vector_read : (v i : ℕ) → Choice g v i → (stored k m).vector v i ≡ (model_in k g m).entries.vector v i
+  pub vector_read : (v i : ℕ) → HasChoice g v i → (stored k m).vector v i ≡ (model_in k g m).entries.vector v i
   vector_read v i c = sym (cond-true (mem v (members g.present) && nat_lt i (count_at g v)) _ _ (is_choice v i c))
 
-  matrix_read : (u v i j : ℕ) → Choice g u i → Choice g v j → u < v → (stored k m).matrix u v i j ≡ (model_in k g m).entries.matrix u v i j
+  matrix_read : (u v i j : ℕ) → HasChoice g u i → HasChoice g v j → u < v → (stored k m).matrix u v i j ≡ (model_in k g m).entries.matrix u v i j
   matrix_read u v i j c d l = sym (cond-true
       ((mem u (members g.present) && nat_lt i (count_at g u)) && ((mem v (members g.present) && nat_lt j (count_at g v)) && nat_lt u v)) _ _
       (and_from _ _ (is_choice u i c) (and_from _ _ (is_choice v j d) (lt-ltb u v l))))
 
-  pub entry_read : (u v i j : ℕ) → Choice g u i → Choice g v j → (u ≢ v) → cost (stored k m) u v i j ≡ cost (model_in k g m).entries u v i j
+  pub entry_read : (u v i j : ℕ) → HasChoice g u i → HasChoice g v j → (u ≢ v) → cost (stored k m) u v i j ≡ cost (model_in k g m).entries u v i j
   entry_read u v i j c d ne = ⊎_elim (λ e. absurd (ne e)) (⊎_elim
       (λ l. let t = lt-ltb u v l in cond-true (nat_lt u v) _ _ t ∙ matrix_read u v i j c d l ∙ sym (cond-true (nat_lt u v) _ _ t))
       (λ l. let t = le-ltb u v (omega arith) in cond-false (nat_lt u v) _ _ t ∙ matrix_read v u j i d c l ∙ sym (cond-false (nat_lt u v) _ _ t))) (cases_order u v)

@@ -9,7 +9,7 @@ pub record Present (g : Graph) (v : ℕ) : Type 0 where
   pub present : has g.present v ≡ true
 
 -- v is present and has a choice i
-pub record Choice (g : Graph) (v i : ℕ) : Type 0 where
+pub record HasChoice (g : Graph) (v i : ℕ) : Type 0 where
   pub variable : v < 12
   pub present : has g.present v ≡ true
   pub within : i < count_at g v

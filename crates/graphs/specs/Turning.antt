@@ -1,10 +1,9 @@
--- One turn of the sweep over tables in a memory.
-use Rattle.std.specs.Prelude.{◌≡◌, ℕ, zero, suc, ◌+◌, ◌<◌, ◌≤◌, Bool, true, false, cond, ◌⊎◌, List, [], ◌∷◌, length, take, ◌≢◌, nat_lt, slice_index_or, slice_set, refl}
+-- One turn of the sweep.
+use Rattle.std.specs.Prelude.{◌≡◌, ℕ, zero, suc, ◌+◌, ◌<◌, ◌≤◌, Bool, true, false, cond, ◌⊎◌, List, [], ◌∷◌, length, replicate, ◌≢◌, nat_lt, slice_index_or, slice_set, refl}
 use Rattle.std.proofs.Common.{sym, ap, ap₂, ◌∙◌, subst, inl, inr, ⊎_elim, arith, length-set, get_or-set_same, get_or-set_other}
 use Rattle.std.proofs.Math.Path.{fun_ext}
 use Rattle.std.specs.List.{AllByRecursion}
 use Rattle.std.proofs.ByRecursion.{All-weaker, all_kept_by}
-use Rattle.std.proofs.lemmas.List.{take-set-le}
 use Rattle.std.proofs.lemmas.Bool.{both_ways, cond-true, cond-false, cond_both, cases_eq, cases_lt, cases_Bool, lt-ltb, le-ltb}
 use Rattle.prices.specs.declared.price.Price.{Ghosts as Kind}
 use Rattle.graphs.specs.declared.graph.Graph.{Graph}
@@ -12,42 +11,30 @@ use Rattle.graphs.specs.Masks.{has, members_from, members_below}
 use Rattle.graphs.specs.Model.{Model, In, beside, sum_over, Within, put}
 use Rattle.graphs.specs.Stored.{count_at, model_in, pick_of}
 use Rattle.graphs.specs.Taken.{Taken}
-use Rattle.graphs.specs.Kept.{reaches, front, number_of, Met, Kept, table_of, picks_in, front_at, KeptAt, Next, Before, Below, Every, Five, Apart}
+use Rattle.graphs.specs.Kept.{reaches, front, number_of, Met, Kept, prices_in, picks_in, front_at, KeptAt, Next, Before, Below, Every, Five}
 use Rattle.graphs.specs.Lists.{all_in}
 use Rattle.graphs.specs.Walk.{below_in, from_in}
 use Rattle.graphs.specs.Reading.{count_few, count_read}
-use Rattle.graphs.specs.Improving.{at_place, at_same, at_other, improved, stood, fewer, follows, extended, nothing, unused, number_below}
+use Rattle.graphs.specs.Improving.{at_place, at_same, at_other, improved, stood, fewer, follows, extended, nothing, none_kept, number_below}
 
--- # Writes to the memory
-module _ {P : Type 0} (k : Kind P) (m : List P) where
-  pub table_at : (at c : ℕ) → c < 125 → table_of k m at c ≡ slice_index_or m (at + c) k.greatest
-  table_at at c h = cond-true (nat_lt c 125) _ _ (lt-ltb c 125 h)
+-- # Writes to a table
+pub prices_set : {P : Type 0} (k : Kind P) (t : List P) (c : ℕ) (q : P) → c < length t → prices_in k (slice_set t c q) ≡ at_place (prices_in k t) c q
+prices_set k t c q h = fun_ext (λ y. ⊎_elim
+    (λ e. ap (prices_in k (slice_set t c q)) e ∙ get_or-set_same t c q k.greatest h ∙ sym (ap (at_place (prices_in k t) c q) e ∙ at_same (prices_in k t) c q))
+    (λ ne. get_or-set_other t c y q k.greatest ne ∙ sym (at_other (prices_in k t) c q y ne))
+    (cases_eq y c))
 
-  pub table_set : (at c : ℕ) (q : P) → c < 125 → at + 125 ≤ length m → table_of k (slice_set m (at + c) q) at ≡ at_place (table_of k m at) c q
-  table_set at c q h l = fun_ext (λ y. ⊎_elim
-      (λ e. ap (table_of k (slice_set m (at + c) q) at) e ∙ cond-true (nat_lt c 125) _ _ (lt-ltb c 125 h) ∙ get_or-set_same m (at + c) q k.greatest (omega arith) ∙ sym (ap (at_place (table_of k m at) c q) e ∙ at_same (table_of k m at) c q))
-      (λ ne. ap (λ z. cond (nat_lt y 125) z k.greatest) (get_or-set_other m (at + c) (at + y) q k.greatest (λ e. ne (omega arith))) ∙ sym (at_other (table_of k m at) c q y ne))
-      (cases_eq y c))
-
-  pub table_kept : (at new c : ℕ) (q : P) → c < 125 → ((at + 125 ≤ new) ⊎ (new + 125 ≤ at)) → table_of k (slice_set m (new + c) q) at ≡ table_of k m at
-  table_kept at new c q h apart = fun_ext (λ y. ⊎_elim
-      (λ l. ap (λ z. cond (nat_lt y 125) z k.greatest) (get_or-set_other m (new + c) (at + y) q k.greatest (λ e. ⊎_elim (λ a. omega arith) (λ a. omega arith) apart)))
-      (λ l. cond-false (nat_lt y 125) _ _ (le-ltb y 125 l) ∙ sym (cond-false (nat_lt y 125) _ _ (le-ltb y 125 l)))
-      (cases_lt y 125))
-
--- the price that a table keeps at j, and that the place is in use
-module _ {P : Type 0} (k : Kind P) (m : List P) (at j : ℕ) (b : j < 125) (p : P) (is : p ≡ slice_index_or m (at + j) k.greatest) where
-  pub kept_price : table_of k m at j ≡ p
-  kept_price = table_at k m at j b ∙ sym is
-
-  pub in_use : (t : P) → t ≡ k.greatest → k.at_most t p ≡ false → k.at_most k.greatest (table_of k m at j) ≡ false
-  in_use t e d = ap₂ k.at_most (sym e) kept_price ∙ d
-
-pub picks_set : (l : List (List ℕ)) (c : ℕ) (xs : List ℕ) → c < length l → picks_in (slice_set l c xs) ≡ at_place (picks_in l) c (pick_of xs)
+picks_set : (l : List (List ℕ)) (c : ℕ) (xs : List ℕ) → c < length l → picks_in (slice_set l c xs) ≡ at_place (picks_in l) c (pick_of xs)
 picks_set l c xs h = fun_ext (λ y. ⊎_elim
     (λ e. ap (picks_in (slice_set l c xs)) e ∙ ap pick_of (get_or-set_same l c xs [] h) ∙ sym (ap (at_place (picks_in l) c (pick_of xs)) e ∙ at_same (picks_in l) c (pick_of xs)))
     (λ ne. ap pick_of (get_or-set_other l c y xs [] ne) ∙ sym (at_other (picks_in l) c (pick_of xs) y ne))
     (cases_eq y c))
+
+-- a table of one price throughout
+pub all_at : {P : Type 0} (k : Kind P) (p : P) (n c : ℕ) → p ≡ k.greatest → prices_in k (replicate n p) c ≡ k.greatest
+all_at k p zero c h = refl
+all_at k p (suc n) zero h = h
+all_at k p (suc n) (suc c) h = all_at k p n c h
 
 -- # Members
 pub in_below : (p v y : ℕ) → y < v → has p y ≡ true → In y (members_below p v)
@@ -158,43 +145,21 @@ module _ {P : Type 0} (k : Kind P) (g : Graph) (pr : List P) (v fr : ℕ) (n : N
         (back _ _ _ (fewer k md (v ∷ done) xs (at_place t2 c q) (at_place l2 c a) _ (Before k g pr v j (i + 1)) more (improved k md (v ∷ done) xs t2 l2 (Before k g pr v j i) c q a hh w.0 met)))))
         way
 
--- what `improve` did, in terms of the tables
-pub improves : {P : Type 0} (k : Kind P) (m m2 : List P) (l l2 : List (List ℕ)) (old new c : ℕ) (q : P) (xs : List ℕ) → c < 125 → Apart old new (length m) → c < length l →
-    m2 ≡ cond (k.at_most (slice_index_or m (new + c) k.greatest) q) m (slice_set m (new + c) q) →
-    l2 ≡ cond (k.at_most (slice_index_or m (new + c) k.greatest) q) l (slice_set l c xs) →
-    (take 1710 m2 ≡ take 1710 m) × (table_of k m2 old ≡ table_of k m old)
-    × (((k.at_most (table_of k m new c) q ≡ true) × (table_of k m2 new ≡ table_of k m new) × (picks_in l2 ≡ picks_in l))
-    ⊎ ((k.at_most (table_of k m new c) q ≡ false) × (table_of k m2 new ≡ at_place (table_of k m new) c q) × (picks_in l2 ≡ at_place (picks_in l) c (pick_of xs))))
-improves k m m2 l l2 old new c q xs h sides hl em el =
-    let test = k.at_most (slice_index_or m (new + c) k.greatest) q in
-    let same : k.at_most (table_of k m new c) q ≡ test = ap (λ z. k.at_most z q) (table_at k m new c h) in
+-- what an improved place makes of a table
+pub improves : {P : Type 0} (k : Kind P) (t t2 : List P) (l l2 : List (List ℕ)) (c : ℕ) (q : P) (xs : List ℕ) → c < length t → c < length l →
+    t2 ≡ cond (k.at_most (prices_in k t c) q) t (slice_set t c q) → l2 ≡ cond (k.at_most (prices_in k t c) q) l (slice_set l c xs) →
+    ((k.at_most (prices_in k t c) q ≡ true) × (prices_in k t2 ≡ prices_in k t) × (picks_in l2 ≡ picks_in l))
+    ⊎ ((k.at_most (prices_in k t c) q ≡ false) × (prices_in k t2 ≡ at_place (prices_in k t) c q) × (picks_in l2 ≡ at_place (picks_in l) c (pick_of xs)))
+improves k t t2 l l2 c q xs ht hl et el =
+    let test = k.at_most (prices_in k t c) q in
     ⊎_elim
-    (λ d. let e = em ∙ cond-true test m (slice_set m (new + c) q) d in
-    (ap (take 1710) e, ap (λ z. table_of k z old) e, inl (same ∙ d, ap (λ z. table_of k z new) e, ap picks_in (el ∙ cond-true test l (slice_set l c xs) d))))
-    (λ d. let e = em ∙ cond-false test m (slice_set m (new + c) q) d in
-    let room : new + 125 ≤ length m = omega (arith, sides.room, sides.new_high) in (
-      ap (take 1710) e ∙ take-set-le 1710 m (new + c) q (omega (arith, sides.new_low)),
-      ap (λ z. table_of k z old) e ∙ table_kept k m old new c q h sides.apart,
-      inr (same ∙ d, ap (λ z. table_of k z new) e ∙ table_set k m new c q h room, ap picks_in (el ∙ cond-false test l (slice_set l c xs) d) ∙ picks_set l c xs hl),
-    ))
+    (λ d. inl (d, ap (prices_in k) (et ∙ cond-true test t (slice_set t c q) d), ap picks_in (el ∙ cond-true test l (slice_set l c xs) d)))
+    (λ d. inr (d, ap (prices_in k) (et ∙ cond-false test t (slice_set t c q) d) ∙ prices_set k t c q ht, ap picks_in (el ∙ cond-false test l (slice_set l c xs) d) ∙ picks_set l c xs hl))
     (cases_Bool test)
-
-pub either_long : {X : Type 0} (b : Bool) (l l2 : List X) (c : ℕ) (x : X) → l2 ≡ cond b l (slice_set l c x) → length l2 ≡ length l
-either_long b l l2 c x e = ap length e ∙ cond_both b l (slice_set l c x) (λ z. length z ≡ length l) (λ _. refl) (λ _. length-set l c x)
-
-module _ {P : Type 0} (k : Kind P) (g : Graph) (pr pr2 : List P) (e : pr ≡ pr2) (v : ℕ) where
-  pub move_next : (fr : ℕ) → Next k g pr v fr → Next k g pr2 v fr
-  move_next fr h = subst (λ z. Next k g z v fr) e h
-
-  pub move_before : (t t2 : ℕ → P) (l : ℕ → ℕ → ℕ) → t ≡ t2 → KeptAt k g pr v t l Every → KeptAt k g pr2 v t2 l Every
-  move_before t t2 l et h = subst (λ z. KeptAt k g pr2 v z l Every) et (subst (λ z. KeptAt k g z v t l Every) e h)
-
-  pub move_after : (t : ℕ → P) (l : ℕ → ℕ → ℕ) (j : ℕ) → KeptAt k g pr (v + 1) t l (Below k g pr v j) → KeptAt k g pr2 (v + 1) t l (Below k g pr2 v j)
-  move_after t l j h = subst (λ z. KeptAt k g z (v + 1) t l (Below k g z v j)) e h
 
 module _ {P : Type 0} (k : Kind P) (g : Graph) (pr : List P) (v : ℕ) (t : ℕ → P) (l : ℕ → ℕ → ℕ) where
   pub starts_empty : ((c : ℕ) → c < 125 → t c ≡ k.greatest) → KeptAt k g pr (v + 1) t l (Below k g pr v 0)
-  starts_empty h = fewer k (model_in k g pr) _ _ t l (λ _. ⊥) (Below k g pr v 0) (λ b _ r. omega arith) (unused k (model_in k g pr) _ _ t l h)
+  starts_empty h = fewer k (model_in k g pr) _ _ t l (λ _. ⊥) (Below k g pr v 0) (λ b _ r. omega arith) (none_kept k (model_in k g pr) _ _ t l h)
 
   pub all_covered : (j : ℕ) → 125 ≤ j → has g.present v ≡ true → length (front_at k g pr v) ≤ 3 → KeptAt k g pr (v + 1) t l (Below k g pr v j) → KeptAt k g pr (v + 1) t l Every
   all_covered j hj has slim h = fewer k (model_in k g pr) _ _ t l (Below k g pr v j) Every

@@ -1,13 +1,35 @@
 // Branch and bound: a base solver that turns nothing away.
-ghost use Rattle.std.specs.Prelude.{None};
+ghost use Rattle.std.specs.Prelude.{◌≡◌, ◌≤◌, None, length};
+ghost use Rattle.graphs.specs.Search.{searched};
+ghost use Rattle.graphs.specs.Holding.{found_in};
+ghost use Rattle.graphs.specs.Stored.{model_in, pick_of};
 ghost use Rattle.std.proofs.Common.{rules};
 
-use crate::fault::{Cause, Fault};
+use crate::base::{fitting, has_room};
+use crate::best::Best;
+use crate::fault::Fault;
 use crate::graph::Graph;
-use crate::places::{BASE_NEED, GRAPH_PRICES};
-use crate::search::{Best, descend};
+use crate::places::GRAPH_PRICES;
+use crate::priced::Priced;
 use crate::solver::Solver;
 use prices::Price;
+
+// The best of all assignments; the picks of absent variables stay.
+fn searched<P: Price>(graph: &Graph, prices: &[P], picks: [u8; 12]) -> Best<P>
+    requires { 1710 ≤ length prices.now }
+    ensures { found_in result ≡ searched P.Price (model_in P.Price graph.now prices.now) (pick_of picks) }
+{
+    let priced = Priced {
+        graph: *graph,
+        prices,
+    };
+    let mut best = Best {
+        price: P::top(),
+        picks,
+    };
+    priced.descend(0, picks, P::zero(), &mut best);
+    best
+}
 
 #[derive(Clone, Copy)]
 pub struct BranchAndBound;
@@ -24,23 +46,10 @@ impl<P: Price> Solver<P> for BranchAndBound {
     ghost named = { Prim.search rules };
 
     fn solve(&mut self, graph: &Graph, memory: &mut [P], picks: &mut [u8; 12]) -> Result<P, Fault> {
-        if memory.len() < BASE_NEED {
-            return Err(Fault {
-                cause: Cause::Short,
-            });
-        }
-        let mut best = Best {
-            price: P::top(),
-            picks: *picks,
-        };
-        let prices = &memory[0..GRAPH_PRICES];
-        descend(graph, prices, 0, *picks, P::zero(), &mut best);
-        if P::top().at_most(best.price) {
-            return Err(Fault {
-                cause: Cause::NothingFits,
-            });
-        }
+        has_room(memory)?;
+        let best = searched(graph, &memory[..GRAPH_PRICES], *picks);
+        let price = fitting(best.price)?;
         *picks = best.picks;
-        Ok(best.price)
+        Ok(price)
     }
 }

@@ -1,51 +1,76 @@
 // Elimination: a base solver that turns a graph away where a frontier has more than 3 variables.
-ghost use Rattle.std.specs.Prelude.{◌≡◌, ℕ, ◌≤◌, length, take, if◌then◌else◌, nat_lt, slice_index};
+ghost use Rattle.std.specs.Prelude.{◌≡◌, ℕ, ◌≤◌, if◌then◌else◌, length, nat_lt, slice_index};
 ghost use Rattle.graphs.specs.Masks.{has};
 ghost use Rattle.graphs.specs.Edges.{EdgesOf};
 ghost use Rattle.graphs.specs.Frontier.{widest, at_depth_zero};
 ghost use Rattle.graphs.specs.Kept.{Narrow, Swept};
-ghost use Rattle.graphs.specs.Stored.{model_of, pick_of};
-ghost use Rattle.graphs.specs.Eliminated.{open_none, named_within};
+ghost use Rattle.graphs.specs.Stored.{model_at, pick_of};
+ghost use Rattle.graphs.specs.Eliminated.{SweptUnlessTurned, open_none, named_within};
 ghost use Rattle.std.proofs.Common.{rules};
 
-use crate::edges::edge_masks;
+use crate::base::{fitting, has_room};
+use crate::best::Best;
 use crate::fault::{Cause, Fault};
 use crate::frontier::too_wide;
 use crate::graph::Graph;
-use crate::places::{BASE_NEED, GRAPH_PRICES};
-use crate::search::Best;
+use crate::index::Variable;
+use crate::places::GRAPH_PRICES;
+use crate::priced::Priced;
 use crate::solver::Solver;
-use crate::sweep::sweep;
-use crate::tables::{PLACES, clear, write};
-use crate::turn::Sides;
+use crate::table::Table;
 use prices::Price;
 
-// The sweep from its first table: nothing is set yet, at the price zero.
-fn eliminated<P: Price>(graph: &Graph, edges: &[u16; 12], memory: &mut [P]) -> Best<P>
-    requires room { 2010 ≤ length memory.old }
-    requires joined { EdgesOf P.Price (model_of P.Price graph.now memory.old) edges.now }
-    requires narrow { Narrow P.Price (model_of P.Price graph.now memory.old) }
-    ensures stands { take 1710 memory.new ≡ take 1710 memory.old }
-    ensures found { Swept P.Price graph.now (take 1710 memory.old) result.price (pick_of result.picks) }
+// The sweep from its first table, in which nothing is set yet, at the price zero.
+fn swept<'s, 't, P: Price>(
+    priced: &Priced<P>,
+    edges: &[u16; 12],
+    first: &'s mut [P],
+    second: &'t mut [P],
+) -> Best<P>
+    requires first { 125 ≤ length first.old }
+    requires second { 125 ≤ length second.old }
+    requires joined { EdgesOf P.Price (model_at P.Price priced.now) edges.now }
+    requires narrow { Narrow P.Price (model_at P.Price priced.now) }
+    ensures { Swept P.Price priced.now.graph priced.now.prices.now result.price (pick_of result.picks) }
 {
-    let sides = Sides {
-        old: GRAPH_PRICES,
-        new: GRAPH_PRICES + PLACES,
+    let mut old = Table::new(first);
+    let mut new = Table::new(second);
+    old.start();
+    priced.sweep(edges, 0, &mut old, &mut new)
+}
+
+// The lowest price of all assignments, with one that has it, unless a frontier is too wide.
+fn eliminated<P: Price>(
+    graph: &Graph,
+    prices: &[P],
+    free: &mut [P],
+) -> Result<Best<P>, Fault>
+    requires prices { 1710 ≤ length prices.now }
+    requires free { 300 ≤ length free.old }
+    ensures { SweptUnlessTurned P.Price graph.now prices.now result }
+{
+    let priced = Priced {
+        graph: *graph,
+        prices,
     };
-    clear(memory, sides.old);
-    write(memory, sides.old, P::zero());
-    let mut olds = [[0u8; 12]; PLACES];
-    let mut news = [[0u8; 12]; PLACES];
-    sweep(graph, edges, memory, 0, sides, &mut olds, &mut news)
+    let edges = priced.edge_masks();
+    if let Some(v) = too_wide(graph, &edges) {
+        let variable = v.number() as u8;
+        return Err(Fault {
+            cause: Cause::TurnedAway { variable, depth: 0 },
+        });
+    }
+    let (first, second) = free.split_at_mut(125);
+    Ok(swept(&priced, &edges, first, second))
 }
 
 // Takes over the choices of the present variables.
 fn assign(graph: &Graph, picks: &mut [u8; 12], chosen: &[u8; 12])
     ensures { (y : ℕ) → slice_index picks.new y ≡ (if nat_lt y 12 then (if has graph.now.present y then slice_index chosen.now y else slice_index picks.old y) else slice_index picks.old y) }
 {
-    for v in 0..12 {
+    for v in Variable::all() {
         if graph.has(v) {
-            picks[v] = chosen[v];
+            picks[v.number()] = chosen[v.number()];
         }
     }
 }
@@ -65,24 +90,11 @@ impl<P: Price> Solver<P> for Elimination {
     ghost named = { λ s m v d e. named_within P.Price m v d e };
 
     fn solve(&mut self, graph: &Graph, memory: &mut [P], picks: &mut [u8; 12]) -> Result<P, Fault> {
-        if memory.len() < BASE_NEED {
-            return Err(Fault {
-                cause: Cause::Short,
-            });
-        }
-        let edges = edge_masks(graph, &memory[0..GRAPH_PRICES]);
-        if let Some(variable) = too_wide(graph, &edges) {
-            return Err(Fault {
-                cause: Cause::TurnedAway { variable, depth: 0 },
-            });
-        }
-        let best = eliminated(graph, &edges, memory);
-        if P::top().at_most(best.price) {
-            return Err(Fault {
-                cause: Cause::NothingFits,
-            });
-        }
+        has_room(memory)?;
+        let (prices, free) = memory.split_at_mut(GRAPH_PRICES);
+        let best = eliminated(graph, prices, free)?;
+        let price = fitting(best.price)?;
         assign(graph, picks, &best.picks);
-        Ok(best.price)
+        Ok(price)
     }
 }

@@ -2,7 +2,9 @@
 ghost use Rattle.std.specs.Prelude.{◌≡◌};
 ghost use Rattle.graphs.specs.Faults.{told};
 
-#[derive(Clone, Copy)]
+use refusals::Told;
+
+#[derive(Clone, Copy, Debug, PartialEq, Eq)]
 pub enum Cause {
     // The cost memory is shorter than the solver's need.
     Short,
@@ -12,40 +14,25 @@ pub enum Cause {
     NothingFits,
 }
 
-#[derive(Clone, Copy)]
+#[derive(Clone, Copy, Debug, PartialEq, Eq)]
 pub struct Fault {
     pub cause: Cause,
 }
 
 impl Fault {
-    // The number of the refusal in the table of refusals.
-    pub fn number(&self) -> u8
-        ensures { result ≡ (told self.now.cause).number }
+    // What the table of refusals has for it.
+    pub fn told(&self) -> Told
+        ensures { result ≡ told self.now.cause }
     {
-        match self.cause {
-            Cause::Short => 10,
-            Cause::TurnedAway { .. } => 11,
-            Cause::NothingFits => 12,
-        }
-    }
-
-    pub fn place(&self) -> u8
-        ensures { result ≡ (told self.now.cause).place }
-    {
-        match self.cause {
-            Cause::Short => 0,
-            Cause::TurnedAway { variable, .. } => variable,
-            Cause::NothingFits => 255,
-        }
-    }
-
-    // How many layers the fault has risen through, at most 255.
-    pub fn depth(&self) -> u8
-        ensures { result ≡ (told self.now.cause).depth }
-    {
-        match self.cause {
-            Cause::TurnedAway { depth, .. } => depth,
-            Cause::Short | Cause::NothingFits => 0,
+        let (number, place, depth) = match self.cause {
+            Cause::Short => (10, 0, 0),
+            Cause::TurnedAway { variable, depth } => (11, variable, depth),
+            Cause::NothingFits => (12, 255, 0),
+        };
+        Told {
+            number,
+            place,
+            depth,
         }
     }
 }

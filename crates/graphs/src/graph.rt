@@ -14,7 +14,7 @@ pub struct Graph {
 fn clamped(n: u8) -> u8
     ensures { result ≡ clamped_to n }
 {
-    n.min(5).max(1)
+    n.clamp(1, 5)
 }
 
 impl Graph {
@@ -23,13 +23,13 @@ impl Graph {
         ensures present { result.present ≡ present % 4096 }
         ensures counts { result.counts ≡ map clamped_to counts }
     {
-        let mut sizes = counts;
-        for v in 0..12 {
-            sizes[v] = clamped(sizes[v]);
+        let mut counts = counts;
+        for count in counts.iter_mut() {
+            *count = clamped(*count);
         }
         Graph {
             present: present & 4095,
-            counts: sizes,
+            counts,
         }
     }
 }

@@ -2,21 +2,26 @@
 #![tactic(auto)]
 
 mod asked;
+mod base;
 mod beside;
+mod best;
 mod branch_and_bound;
 mod edges;
 mod elimination;
+mod entries;
 mod fault;
 mod frontier;
 mod graph;
+mod index;
 mod masks;
 mod places;
+mod priced;
 mod search;
 mod solver;
 mod stored;
 mod sweep;
+mod table;
 mod tables;
-mod turn;
 
 pub use branch_and_bound::BranchAndBound;
 pub use elimination::Elimination;

@@ -2,9 +2,11 @@
 ghost use Rattle.std.specs.Prelude.{◌≡◌, ◌<◌};
 ghost use Rattle.graphs.specs.Masks.{has};
 
-pub(crate) fn holds(mask: u16, v: usize) -> bool
-    requires { v < 12 }
-    ensures { result ≡ has mask v }
+use crate::index::Variable;
+
+pub(crate) fn holds(mask: u16, v: Variable) -> bool
+    ensures value { result ≡ has mask v }
+    ensures variable { v < 12 }
 {
-    (mask >> v) & 1 == 1
+    (mask >> v.number()) & 1 == 1
 }

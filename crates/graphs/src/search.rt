@@ -1,51 +1,40 @@
 // Branch and bound over the present variables in ascending order.
-ghost use Rattle.std.specs.Prelude.{◌≡◌, ◌≤◌, length};
+ghost use Rattle.std.specs.Prelude.{◌≡◌, ◌≤◌};
 ghost use Rattle.graphs.specs.Masks.{members_from, members_below};
 ghost use Rattle.graphs.specs.Search.{search};
 ghost use Rattle.graphs.specs.Holding.{found_in};
-ghost use Rattle.graphs.specs.Stored.{model_in, pick_of};
+ghost use Rattle.graphs.specs.Stored.{model_at, pick_of};
 ghost use Rattle.graphs.specs.Taken.{Taken};
 
-use crate::beside::beside;
-use crate::graph::Graph;
+use crate::best::Best;
+use crate::index::Variable;
+use crate::priced::Priced;
 use prices::Price;
 
-// The best full price so far, and its assignment.
-#[derive(Clone, Copy)]
-pub(crate) struct Best<P> {
-    pub price: P,
-    pub picks: [u8; 12],
-}
-
-// Sets the present variables from v on beside those taken at this price, each choice in turn.
-pub(crate) fn descend<P: Price>(
-    graph: &Graph,
-    prices: &[P],
-    v: usize,
-    taken: [u8; 12],
-    price: P,
-    best: &mut Best<P>,
-)
-    requires { (v ≤ 12) × ((Taken graph.now v taken) × (1710 ≤ length prices.now)) }
-    ensures { found_in best.new ≡ search P.Price (model_in P.Price graph.now prices.now) (members_from graph.now.present v) (members_below graph.now.present v) (pick_of taken) price (found_in best.old) }
-{
-    if v == 12 {
-        *best = Best {
-            price,
-            picks: taken,
+impl<'a, P: Price> Priced<'a, P> {
+    // Sets the present variables from `from` on beside those taken at this price, each choice in turn.
+    pub(crate) fn descend(&self, from: usize, taken: [u8; 12], price: P, best: &mut Best<P>)
+        requires { (from ≤ 12) × Taken self.now.graph from taken }
+        ensures { found_in best.new ≡ search P.Price (model_at P.Price self.now) (members_from self.now.graph.present from) (members_below self.now.graph.present from) (pick_of taken) price (found_in best.old) }
+    {
+        let Some(v) = Variable::new(from) else {
+            *best = Best {
+                price,
+                picks: taken,
+            };
+            return;
         };
-        return;
-    }
-    if !graph.has(v) {
-        descend(graph, prices, v + 1, taken, price, best);
-        return;
-    }
-    for i in 0..graph.count(v) {
-        let next = beside(graph, prices, v, i, &taken).add(price);
-        if !best.price.at_most(next) {
-            let mut set = taken;
-            set[v] = i as u8;
-            descend(graph, prices, v + 1, set, next, best);
+        if !self.graph.has(v) {
+            self.descend(from + 1, taken, price, best);
+            return;
+        }
+        for i in self.graph.choices(v) {
+            let next = self.beside(v, i, &taken).add(price);
+            if !best.price.at_most(next) {
+                let mut set = taken;
+                set[from] = i.number() as u8;
+                self.descend(from + 1, set, next, best);
+            }
         }
     }
 }

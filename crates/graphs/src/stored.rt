@@ -1,44 +1,32 @@
-// Reading a graph and its prices.
-ghost use Rattle.std.specs.Prelude.{◌≡◌, ◌<◌, ◌≤◌, length};
+// A graph's variables and counts.
+ghost use Rattle.std.specs.Prelude.{◌≡◌, ◌<◌, ◌≤◌};
 ghost use Rattle.graphs.specs.Masks.{has};
-ghost use Rattle.graphs.specs.Model.{cost};
-ghost use Rattle.graphs.specs.Places.{Pair};
-ghost use Rattle.graphs.specs.Stored.{stored, count_at};
+ghost use Rattle.graphs.specs.Stored.{count_at};
 
 use crate::graph::Graph;
+use crate::index::{Choice, Run, Variable};
 use crate::masks::holds;
-use crate::places::{entry_at, vector_at};
-use prices::Price;
 
 impl Graph {
-    pub(crate) fn has(&self, v: usize) -> bool
-        requires { v < 12 }
-        ensures { result ≡ has self.now.present v }
+    pub(crate) fn has(&self, v: Variable) -> bool
+        ensures value { result ≡ has self.now.present v }
+        ensures variable { v < 12 }
     {
         holds(self.present, v)
     }
 
-    pub(crate) fn count(&self, v: usize) -> usize
-        requires { v < 12 }
+    pub(crate) fn count(&self, v: Variable) -> usize
         ensures value { result ≡ count_at self.now v }
         ensures some { 0 < result }
         ensures few { result ≤ 5 }
     {
-        self.counts[v] as usize
+        usize::from(self.counts[v.number()])
     }
-}
 
-pub(crate) fn vector<P: Price>(prices: &[P], v: usize, i: usize) -> P
-    requires { (v < 12) × ((i < 5) × (1710 ≤ length prices.now)) }
-    ensures { result ≡ (stored P.Price prices.now).vector v i }
-{
-    prices[vector_at(v, i)]
-}
-
-// Choice i of u with choice j of v, whichever has the higher number.
-pub(crate) fn entry<P: Price>(prices: &[P], u: usize, v: usize, i: usize, j: usize) -> P
-    requires { (Pair u v) × ((i < 5) × ((j < 5) × (1710 ≤ length prices.now))) }
-    ensures { result ≡ cost (stored P.Price prices.now) u v i j }
-{
-    prices[entry_at(u, v, i, j)]
+    pub(crate) fn choices(&self, v: Variable) -> Run<5>
+        ensures next { result.next ≡ 0 }
+        ensures end { result.end ≡ count_at self.now v }
+    {
+        Choice::first(self.count(v))
+    }
 }

@@ -1,78 +1,81 @@
-// Tables over the assignments of a frontier: prices in the cost memory, choices beside them.
-ghost use Rattle.std.specs.Prelude.{◌≡◌, ℕ, ◌+◌, ◌<◌, ◌≤◌, ◌⊎◌, length, take, if◌then◌else◌, slice_index_or, slice_set};
+// Tables over the assignments of a frontier: for each the lowest price, with choices that have it.
+ghost use Rattle.std.specs.Prelude.{◌≡◌, ℕ, ◌+◌, ◌<◌, ◌≤◌, cond, length, slice_set};
 ghost use Rattle.graphs.specs.Masks.{members_below};
-ghost use Rattle.graphs.specs.Kept.{number_of, table_of, Five};
+ghost use Rattle.graphs.specs.Kept.{number_of, prices_in, picks_in, Five};
 ghost use Rattle.graphs.specs.Stored.{pick_of};
 
+use crate::best::Best;
+use crate::index::{Below, Variable};
 use crate::masks::holds;
+use crate::table::Table;
 use prices::Price;
 
 // A table has a place for each assignment of at most three variables.
-pub(crate) const PLACES: usize = 125;
+pub(crate) type Place = Below<125>;
 
-// The place of the choices that the frontier's variables, all below v, have in the picks.
-pub(crate) fn place_of(front: u16, v: usize, picks: &[u8; 12]) -> usize
-    requires { (v ≤ 12) × ((length (members_below front v) ≤ 3) × (Five front v picks.now)) }
-    ensures value { result ≡ number_of (members_below front v) (pick_of picks.now) }
+// The place of the choices that the frontier's variables, all up to v, have in the picks.
+pub(crate) fn place_of(front: u16, v: Variable, picks: &[u8; 12]) -> Place
+    requires { (length (members_below front (v + 1)) ≤ 3) × Five front (v + 1) picks.now }
+    ensures value { result ≡ number_of (members_below front (v + 1)) (pick_of picks.now) }
     ensures within { result < 125 }
 {
     let mut place = 0;
-    for u in 0..v {
+    for u in v.through() {
         if holds(front, u) {
-            place = picks[u] as usize + 5 * place;
+            place = usize::from(picks[u.number()]) + 5 * place;
         }
     }
-    place
+    Place::known(place)
 }
 
-pub(crate) fn read<P: Price>(memory: &[P], at: usize) -> P
-    requires { at < length memory.now }
-    ensures { result ≡ slice_index_or memory.now at P.Price.greatest }
-{
-    memory[at]
-}
-
-pub(crate) fn write<P: Price>(memory: &mut [P], at: usize, price: P)
-    requires { at < length memory.old }
-    ensures { memory.new ≡ slice_set memory.old at price }
-{
-    memory[at] = price;
-}
-
-pub(crate) fn copied(picks: &[u8; 12]) -> [u8; 12]
-    ensures same { result ≡ picks.now }
-    ensures whole { length result ≡ 12 }
-{
-    *picks
-}
-
-// Keeps the price and its picks at a place if the price is lower than what is kept there.
-pub(crate) fn improve<P: Price>(
-    memory: &mut [P],
-    table: usize,
-    choices: &mut [[u8; 12]; PLACES],
-    place: usize,
-    price: P,
-    picks: [u8; 12],
-)
-    requires { (place < 125) × (table + 125 ≤ length memory.old) }
-    ensures prices { memory.new ≡ (if P.Price.at_most (slice_index_or memory.old (table + place) P.Price.greatest) price then memory.old else slice_set memory.old (table + place) price) }
-    ensures picks { choices.new ≡ (if P.Price.at_most (slice_index_or memory.old (table + place) P.Price.greatest) price then choices.old else slice_set choices.old place picks) }
-{
-    if !memory[table + place].at_most(price) {
-        memory[table + place] = price;
-        choices[place] = picks;
+impl<'t, P: Price> Table<'t, P> {
+    pub(crate) fn new(prices: &'t mut [P]) -> Table<'t, P>
+        requires { 125 ≤ length prices.old }
+        ensures { result.prices.ghost_name ≡ prices.entry.ghost_name }
+    {
+        Table {
+            prices,
+            picks: [[0; 12]; 125],
+        }
     }
-}
 
-// Empties a table.
-pub(crate) fn clear<P: Price>(memory: &mut [P], table: usize)
-    requires { (1710 ≤ table) × (table + 125 ≤ length memory.old) }
-    ensures stands { take 1710 memory.new ≡ take 1710 memory.old }
-    ensures other { (old : ℕ) → ((old + 125 ≤ table) ⊎ (table + 125 ≤ old)) → table_of P.Price memory.new old ≡ table_of P.Price memory.old old }
-    ensures empty { (c : ℕ) → c < 125 → slice_index_or memory.new (table + c) P.Price.greatest ≡ P.Price.greatest }
-{
-    for c in 0..PLACES {
-        write(memory, table + c, P::top());
+    // What is kept at a place.
+    pub(crate) fn kept(&self, place: Place) -> Best<P>
+        ensures price { result.price ≡ prices_in P.Price self.now.prices.now place }
+        ensures picks { pick_of result.picks ≡ picks_in self.now.picks place }
+        ensures twelve { length result.picks ≡ 12 }
+        ensures place { place < 125 }
+    {
+        Best::new(self.prices[place.number()], self.picks[place.number()])
+    }
+
+    // No place is used.
+    pub(crate) fn clear(&mut self)
+        ensures { (c : ℕ) → prices_in P.Price self.new.prices.now c ≡ P.Price.greatest }
+    {
+        for price in self.prices.iter_mut() {
+            *price = P::top();
+        }
+    }
+
+    // Nothing is set yet, at the price zero.
+    pub(crate) fn start(&mut self)
+        ensures zero { prices_in P.Price self.new.prices.now 0 ≡ P.Price.least }
+        ensures others { (c : ℕ) → 0 < c → prices_in P.Price self.new.prices.now c ≡ P.Price.greatest }
+    {
+        self.clear();
+        self.prices[0] = P::zero();
+    }
+
+    // Keeps the price and its picks at a place if the price is lower than what is kept there.
+    pub(crate) fn improve(&mut self, place: Place, price: P, picks: [u8; 12])
+        ensures prices { self.new.prices.now ≡ cond (P.Price.at_most (prices_in P.Price self.old.prices.now place) price) self.old.prices.now (slice_set self.old.prices.now place price) }
+        ensures picks { self.new.picks ≡ cond (P.Price.at_most (prices_in P.Price self.old.prices.now place) price) self.old.picks (slice_set self.old.picks place picks) }
+    {
+        let at = place.number();
+        if !self.prices[at].at_most(price) {
+            self.prices[at] = price;
+            self.picks[at] = picks;
+        }
     }
 }

@@ -1,30 +1,39 @@
-use Rattle.std.proofs.Common.{length, take, None, sym, refl, ap, ◌∙◌}
+use Rattle.std.proofs.Common.{◌≡◌, ◌≤◌, None, Ok, Err, length, take, sym, refl, ap, ◌∙◌, subst, arith, length-take, rules}
+use Rattle.std.proofs.lemmas.Result.{err_from_is_err_and}
+use Rattle.graphs.specs.Outcome.{Chosen}
 use Rattle.graphs.specs.Stored.{model_of}
-use Rattle.graphs.proofs.Branching.{begins, answers_top, answers, chosen}
-use Rattle.graphs.specs.Outcomes.{nothing_fits}
+use Rattle.graphs.proofs.Branching.{answers, chosen}
+use Rattle.graphs.specs.Outcomes.{fitted_ok, nothing_fits}
 use Rattle.graphs.specs.Reading.{proper}
 use Rattle.graphs.proofs.branch_and_bound.BranchAndBoundSolver.solve.Goals as goal
 
-pub returns-then-at_most : goal.returns-then-at_most
-returns-then-at_most g c =
-    let k = g.P.Price in
-    let gr = c.args.graph.now in
-    let mem = c.args.memory.now in
-    let xs = c.args.picks.now in
-    let best = c.descend.new.best in
-    let is = begins k gr mem _ xs c.zero.result c.top.result best refl c.zero.ensures c.top.ensures c.descend.ensures in
-    let d = ap (λ t. k.at_most t best.price) (sym c.top-2.ensures) ∙ sym c.if-at_most.ensures in
-    let a = answers_top k gr mem xs best is (length mem) c.if-memory-lt-BASE_NEED.false d in
-    record { answer = a; stands = refl; picked = refl; nothing = nothing_fits k 2010 None (model_of k gr mem) (length mem) _ (proper k gr (take 1710 mem)) a; needs = refl; turning = refl }
+pub slice_bounds-searched-end-2 : goal.slice_bounds-searched-end-2
+slice_bounds-searched-end-2 g c = let h : 1710 ≤ length c.args.memory.now = omega (arith, c.in_ok-has_room.ensures) in search rules
 
-pub returns : goal.returns
-returns g c =
-    let k = g.P.Price in
-    let gr = c.args.graph.now in
+pub searched-best-requires : goal.searched-best-requires
+searched-best-requires g c = simp length-take (omega (arith, c.in_ok-has_room.ensures))
+
+pub returns-in_err-price-clause-answer : goal.returns-in_err-price-clause-answer
+returns-in_err-price-clause-answer g c =
     let mem = c.args.memory.now in
-    let xs = c.args.picks.now in
-    let best = c.descend.new.best in
-    let is = begins k gr mem _ xs c.zero.result c.top.result best refl c.zero.ensures c.top.ensures c.descend.ensures in
-    let d = ap (λ t. k.at_most t best.price) (sym c.top-2.ensures) ∙ sym c.if-at_most.ensures in
-    let a = answers k gr mem xs best is (length mem) c.if-memory-lt-BASE_NEED.false d in
-    record { answer = a; stands = refl; picked = chosen k gr mem xs best is d; nothing = nothing_fits k 2010 None (model_of k gr mem) (length mem) _ (proper k gr (take 1710 mem)) a; needs = refl; turning = refl }
+    let p = err_from_is_err_and c.from_residual-in_err-price.result c.from_residual-in_err-price.ensures.1 in
+    p.1 ∙ ap Err p.2 ∙ sym c.in_err-price.was ∙ c.fitting.ensures ∙ sym (answers g.P.Price c.args.graph.now mem c.args.picks.now c.searched-best.result c.searched-best.ensures (length mem) c.in_ok-has_room.ensures)
+
+pub returns-in_err-price-clause-nothing : goal.returns-in_err-price-clause-nothing
+returns-in_err-price-clause-nothing g c =
+    let mem = c.args.memory.now in
+    let md = model_of g.P.Price c.args.graph.now mem in
+    nothing_fits g.P.Price 2010 None md (length mem) _ (proper g.P.Price c.args.graph.now (take 1710 mem)) (returns-in_err-price-clause-answer g c)
+
+pub returns-clause-answer : goal.returns-clause-answer
+returns-clause-answer g c =
+    let mem = c.args.memory.now in
+    sym c.in_ok-price.was ∙ c.fitting.ensures ∙ sym (answers g.P.Price c.args.graph.now mem c.args.picks.now c.searched-best.result c.searched-best.ensures (length mem) c.in_ok-has_room.ensures)
+
+pub returns-clause-picked : goal.returns-clause-picked
+returns-clause-picked g c =
+    let k = g.P.Price in
+    let best = c.searched-best.result in
+    let md = model_of k c.args.graph.now c.args.memory.now in
+    let f = fitted_ok k best.price c.in_ok-price.price (sym c.fitting.ensures ∙ c.in_ok-price.was) in
+    subst (λ p. Chosen k md p c.args.picks.now best.picks) f.same (chosen k c.args.graph.now c.args.memory.now c.args.picks.now best c.searched-best.ensures f.below)

@@ -1,69 +1,71 @@
-use Rattle.std.proofs.Common.{length, take, sym, refl, ap, ◌∙◌}
+use Rattle.std.proofs.Common.{◌≡◌, ◌≤◌, List, ◌++◌, Some, None, Ok, Err, length, take, sym, refl, ap, ◌∙◌, subst, arith}
+use Rattle.std.proofs.lemmas.Result.{err_from_is_err_and}
 use Rattle.graphs.specs.Frontier.{widest, at_depth_zero}
+use Rattle.graphs.specs.Kept.{Swept}
+use Rattle.graphs.specs.Outcome.{Chosen}
 use Rattle.graphs.specs.Stored.{model_of, pick_of}
-use Rattle.graphs.specs.Eliminated.{widest_found, none_narrow, answer_turned, answer_top, answer_found}
-use Rattle.graphs.specs.Ending.{swept_found, assigned}
-use Rattle.graphs.specs.Outcomes.{nothing_fits}
+use Rattle.graphs.specs.Eliminated.{SweptUnlessTurned, answer_turned, answer_swept}
+use Rattle.graphs.specs.Ending.{swept_found, assigned, front_stands}
+use Rattle.graphs.specs.Outcomes.{fitted_ok, nothing_fits}
 use Rattle.graphs.specs.Reading.{proper}
 use Rattle.graphs.proofs.elimination.EliminationSolver.solve.Goals as goal
 
-pub returns-in-Some : goal.returns-in-Some
-returns-in-Some g c =
-    let k = g.P.Price in
-    let gr = c.args.graph.now in
-    let mem = c.args.memory.now in
-    let w = widest_found k gr (take 1710 mem) c.edge_masks-edges.result c.edge_masks-edges.ensures in
-    let a = answer_turned k gr (take 1710 mem) (length mem) c.if-memory-lt-BASE_NEED.false c.in-Some.variable (c.in-Some.ensures ∙ w) in
-    record {
-      answer = a;
-      stands = refl;
-      picked = refl;
-      nothing = nothing_fits k 2010 (at_depth_zero (widest k (model_of k gr mem))) (model_of k gr mem) (length mem) _ (proper k gr (take 1710 mem)) a;
-      needs = refl;
-      turning = refl;
-    }
+pub returns-in_err-best-clause-stands : goal.returns-in_err-best-clause-stands
+returns-in_err-best-clause-stands g c = front_stands c.args.memory.now _ _ c.split_at_mut-prices.ensures.front (omega (arith, c.in_ok-has_room.ensures))
 
-pub eliminated-best-requires : goal.eliminated-best-requires
-eliminated-best-requires g c =
+pub returns-in_err-best-clause-answer : goal.returns-in_err-best-clause-answer
+returns-in_err-best-clause-answer g c =
     let k = g.P.Price in
     let gr = c.args.graph.now in
     let mem = c.args.memory.now in
-    let w = widest_found k gr (take 1710 mem) c.edge_masks-edges.result c.edge_masks-edges.ensures in
-    record { room = c.if-memory-lt-BASE_NEED.false; joined = c.edge_masks-edges.ensures; narrow = none_narrow k (model_of k gr mem) (c.in_default.ensures ∙ w) }
+    let turned = subst (λ pr. SweptUnlessTurned k gr pr (Err c.in_err-best.field-0.0)) c.split_at_mut-prices.ensures.front c.in_err-best.ensures in
+    let p = err_from_is_err_and c.from_residual-in_err-best.result c.from_residual-in_err-best.ensures.1 in
+    p.1 ∙ ap Err (p.2 ∙ turned.2) ∙ answer_turned k gr (take 1710 mem) (length mem) c.in_ok-has_room.ensures turned.0 turned.1
 
-pub returns-then-at_most : goal.returns-then-at_most
-returns-then-at_most g c =
-    let k = g.P.Price in
-    let gr = c.args.graph.now in
+pub returns-in_err-best-clause-nothing : goal.returns-in_err-best-clause-nothing
+returns-in_err-best-clause-nothing g c =
     let mem = c.args.memory.now in
-    let r = c.eliminated-best.result in
-    let w = widest_found k gr (take 1710 mem) c.edge_masks-edges.result c.edge_masks-edges.ensures in
-    let d = ap (λ t. k.at_most t r.price) (sym c.top.ensures) ∙ sym c.if-at_most.ensures in
-    let a = answer_top k gr (take 1710 mem) (length mem) c.if-memory-lt-BASE_NEED.false (c.in_default.ensures ∙ w) r.price (pick_of r.picks) c.eliminated-best.ensures.found d in
-    record {
-      answer = a;
-      stands = c.eliminated-best.ensures.stands;
-      picked = refl;
-      nothing = nothing_fits k 2010 (at_depth_zero (widest k (model_of k gr mem))) (model_of k gr mem) (length mem) _ (proper k gr (take 1710 mem)) a;
-      needs = refl;
-      turning = refl;
-    }
+    let md = model_of g.P.Price c.args.graph.now mem in
+    nothing_fits g.P.Price 2010 (at_depth_zero (widest g.P.Price md)) md (length mem) _ (proper g.P.Price c.args.graph.now (take 1710 mem)) (returns-in_err-best-clause-answer g c)
 
-pub returns : goal.returns
-returns g c =
+pub returns-in_err-price-clause-answer : goal.returns-in_err-price-clause-answer
+returns-in_err-price-clause-answer g c =
     let k = g.P.Price in
     let gr = c.args.graph.now in
     let mem = c.args.memory.now in
-    let r = c.eliminated-best.result in
-    let s = c.eliminated-best.ensures.found in
-    let w = widest_found k gr (take 1710 mem) c.edge_masks-edges.result c.edge_masks-edges.ensures in
-    let d = ap (λ t. k.at_most t r.price) (sym c.top.ensures) ∙ sym c.if-at_most.ensures in
-    let a = answer_found k gr (take 1710 mem) (length mem) c.if-memory-lt-BASE_NEED.false (c.in_default.ensures ∙ w) r.price (pick_of r.picks) s d in
-    record {
-      answer = a;
-      stands = c.eliminated-best.ensures.stands;
-      picked = assigned k gr (take 1710 mem) r.price c.args.picks.now r.picks c.assign.new.picks (swept_found k gr (take 1710 mem) r.price (pick_of r.picks) s d) c.assign.ensures;
-      nothing = nothing_fits k 2010 (at_depth_zero (widest k (model_of k gr mem))) (model_of k gr mem) (length mem) _ (proper k gr (take 1710 mem)) a;
-      needs = refl;
-      turning = refl;
-    }
+    let best = c.in_ok-best.best in
+    let found = subst (λ pr. SweptUnlessTurned k gr pr (Ok best)) c.split_at_mut-prices.ensures.front c.in_ok-best.ensures in
+    let p = err_from_is_err_and c.from_residual-in_err-price.result c.from_residual-in_err-price.ensures.1 in
+    p.1 ∙ ap Err p.2 ∙ sym c.in_err-price.was ∙ c.fitting.ensures ∙ sym (answer_swept k gr (take 1710 mem) (length mem) c.in_ok-has_room.ensures found.0 best.price (pick_of best.picks) found.1)
+
+pub returns-in_err-price-clause-stands : goal.returns-in_err-price-clause-stands
+returns-in_err-price-clause-stands g c = front_stands c.args.memory.now _ _ c.split_at_mut-prices.ensures.front (omega (arith, c.in_ok-has_room.ensures))
+
+pub returns-in_err-price-clause-nothing : goal.returns-in_err-price-clause-nothing
+returns-in_err-price-clause-nothing g c =
+    let mem = c.args.memory.now in
+    let md = model_of g.P.Price c.args.graph.now mem in
+    nothing_fits g.P.Price 2010 (at_depth_zero (widest g.P.Price md)) md (length mem) _ (proper g.P.Price c.args.graph.now (take 1710 mem)) (returns-in_err-price-clause-answer g c)
+
+pub returns-clause-answer : goal.returns-clause-answer
+returns-clause-answer g c =
+    let k = g.P.Price in
+    let gr = c.args.graph.now in
+    let mem = c.args.memory.now in
+    let best = c.in_ok-best.best in
+    let found = subst (λ pr. SweptUnlessTurned k gr pr (Ok best)) c.split_at_mut-prices.ensures.front c.in_ok-best.ensures in
+    sym c.in_ok-price.was ∙ c.fitting.ensures ∙ sym (answer_swept k gr (take 1710 mem) (length mem) c.in_ok-has_room.ensures found.0 best.price (pick_of best.picks) found.1)
+
+pub returns-clause-stands : goal.returns-clause-stands
+returns-clause-stands g c = front_stands c.args.memory.now _ _ c.split_at_mut-prices.ensures.front (omega (arith, c.in_ok-has_room.ensures))
+
+pub returns-clause-picked : goal.returns-clause-picked
+returns-clause-picked g c =
+    let k = g.P.Price in
+    let gr = c.args.graph.now in
+    let mem = c.args.memory.now in
+    let best = c.in_ok-best.best in
+    let found = subst (λ pr. SweptUnlessTurned k gr pr (Ok best)) c.split_at_mut-prices.ensures.front c.in_ok-best.ensures in
+    let f = fitted_ok k best.price c.in_ok-price.price (sym c.fitting.ensures ∙ c.in_ok-price.was) in
+    let w = assigned k gr (take 1710 mem) best.price c.args.picks.now best.picks c.assign.new.picks (swept_found k gr (take 1710 mem) best.price (pick_of best.picks) found.1 f.below) c.assign.ensures in
+    subst (λ p. Chosen k (model_of k gr mem) p c.args.picks.now c.assign.new.picks) f.same w

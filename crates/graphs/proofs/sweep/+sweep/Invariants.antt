@@ -1,5 +1,0 @@
-use Rattle.std.proofs.Common.{◌-◌}
-use Rattle.graphs.proofs.sweep.+sweep.Given as goal
-
-abbrev pub decreases-sweep : goal.decreases-sweep
-decreases-sweep g l = 12 - l.v
