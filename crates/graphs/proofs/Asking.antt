@@ -1,11 +1,11 @@
 -- What is answered of a graph in a memory.
-use Rattle.std.proofs.Common.{◌≡◌, ℕ, zero, suc, ◌+◌, ◌<◌, ◌≤◌, Bool, true, false, cond, not, filter, ◌&&◌, ◌||◌, ltb, List, [], ◌∷◌, map, length, take, get_or, sym, refl, ap, ◌∙◌, ap₂, ⊎_elim, arith}
+use Rattle.std.proofs.Common.{◌≡◌, ℕ, zero, suc, ◌+◌, ◌<◌, ◌≤◌, Bool, true, false, cond, not, filter, ◌&&◌, ◌||◌, ltb, List, [], ◌∷◌, map, length, take, get_or, sym, refl, ap, ◌∙◌, ap₂, arith}
 use mathlib.Core.Path.{fun_ext}
 use lib.ListN.{length-map}
 use Rattle.std.specs.List.{AllByRecursion, list_all}
 use Rattle.std.proofs.ByRecursion.{All-weaker}
 use Rattle.std.proofs.lemmas.List.{ext_get_or, get_or-map, get_or-take}
-use Rattle.std.proofs.lemmas.Bool.{and_parts, cases_Bool, ltb-true}
+use Rattle.std.proofs.lemmas.Bool.{and_parts, ltb-true}
 use Rattle.prices.specs.declared.price.Price.{Ghosts as Kind}
 use Rattle.graphs.specs.declared.graph.Graph.{Graph}
 use Rattle.graphs.specs.Masks.{has, mem, members, members_from, twelve, up_from}
@@ -21,8 +21,7 @@ use Rattle.graphs.proofs.Apart.{pair_below}
 use Rattle.graphs.specs.Fronts.{from_members, in_from}
 use Rattle.graphs.specs.Lists.{all_in}
 use Rattle.graphs.specs.Reading.{count_read, in_mem, proper}
-use Rattle.graphs.specs.Twelve.{count_fits, none_past}
-use Rattle.graphs.specs.Walk.{from_in, from_out}
+use Rattle.graphs.specs.Twelve.{count_fits}
 
 -- # Picks that are an assignment
 pub all_kept : (t p : ℕ → Bool) (xs : List ℕ) → list_all (λ x. not (p x) || t x) xs ≡ list_all t (filter p xs)

@@ -1,5 +1,5 @@
 -- What can be asked of a graph in a memory, and what is answered.
-use Rattle.std.specs.Prelude.{ℕ, Bool, true, cond, ◌&&◌, ltb, List, [], ◌∷◌, map, length, Some, None, Option, nat_lt}
+use Rattle.std.specs.Prelude.{ℕ, Bool, cond, ltb, List, map, length, Some, None, Option, nat_lt}
 use Rattle.std.specs.List.{list_all}
 use Rattle.prices.specs.declared.price.Price.{Ghosts as Kind}
 use Rattle.graphs.specs.declared.graph.Graph.{Graph}

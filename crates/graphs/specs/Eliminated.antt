@@ -1,6 +1,6 @@
 -- What elimination answers.
-use Rattle.std.specs.Prelude.{◌≡◌, ℕ, zero, suc, ◌+◌, ◌<◌, ◌≤◌, Bool, true, false, cond, ◌&&◌, List, [], ◌∷◌, length, get_or, Some, None, Ok, Err, Option, Result, count_ones, nat_lt, slice_index, slice_index_or, slice_set, refl}
-use Rattle.std.proofs.Common.{sym, ◌∙◌, subst, ⊎_elim, arith, get_or-set_same, get_or-set_other}
+use Rattle.std.specs.Prelude.{◌≡◌, ℕ, zero, suc, ◌+◌, ◌<◌, ◌≤◌, Bool, true, false, cond, ◌&&◌, List, [], ◌∷◌, Some, None, Ok, Err, Option, Result, count_ones, nat_lt, slice_index, refl}
+use Rattle.std.proofs.Common.{sym, ◌∙◌, subst, ⊎_elim, arith}
 use Rattle.std.proofs.Math.Path.{ap, ap₂}
 use Rattle.std.specs.List.{AllByRecursion, find}
 use Rattle.std.proofs.lemmas.Bool.{cases_eq}
@@ -19,7 +19,7 @@ use Rattle.graphs.specs.Stored.{model_in, pick_of}
 use Rattle.graphs.specs.Bitwise.{on_twelve, all_twelve}
 use Rattle.graphs.specs.Ending.{begun_table, swept_lowest}
 use Rattle.graphs.specs.Fronts.{frontier_same}
-use Rattle.graphs.specs.Outcomes.{outcome_long, fitted_top, fitted_below}
+use Rattle.graphs.specs.Outcomes.{outcome_long}
 use Rattle.graphs.specs.Reading.{mem_members}
 
 -- # The first that passes a test

@@ -1,5 +1,5 @@
 -- Frontiers, and which graphs elimination turns away.
-use Rattle.std.specs.Prelude.{ℕ, Bool, cond, ◌&&◌, Some, None, Option, count_ones, nat_le, nat_lt}
+use Rattle.std.specs.Prelude.{ℕ, Bool, ◌&&◌, Some, None, Option, count_ones, nat_le, nat_lt}
 use Rattle.std.specs.List.{find}
 use Rattle.prices.specs.declared.price.Price.{Ghosts as Kind}
 use Rattle.graphs.specs.Masks.{has, mask_by, mem, some_below, twelve}

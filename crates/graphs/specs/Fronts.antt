@@ -1,5 +1,5 @@
 -- The frontier's mask has the variables that the mathematics keeps, and as many ones.
-use Rattle.std.specs.Prelude.{◌≡◌, ℕ, zero, suc, ◌+◌, ◌-◌, ◌*◌, ◌^◌, ◌<◌, ◌≤◌, Bool, true, false, cond, ◌&&◌, List, [], ◌∷◌, length, drop, Some, None, filter, count_ones, nat_le, nat_lt, refl}
+use Rattle.std.specs.Prelude.{◌≡◌, ℕ, zero, suc, ◌+◌, ◌-◌, ◌*◌, ◌^◌, ◌<◌, ◌≤◌, Bool, true, false, cond, ◌&&◌, List, [], ◌∷◌, length, filter, count_ones, nat_le, nat_lt, refl}
 use Rattle.std.proofs.Common.{sym, ap₂, ◌∙◌, subst, inl, inr, ⊎_elim, arith}
 use Rattle.std.proofs.Math.Path.{ap}
 use Rattle.std.specs.List.{AllByRecursion}
@@ -7,7 +7,7 @@ use Rattle.std.proofs.ByRecursion.{All-weaker}
 use Rattle.std.proofs.lemmas.Bool.{and_from, and_left, and_parts, both_ways, cases_Bool, cases_eq, cases_lt, cond-true, cond-false, le-leb, lt-leb, lt-ltb, ltb-true, or_cases, or_left, or_right}
 use Rattle.prices.specs.declared.price.Price.{Ghosts as Kind}
 use Rattle.graphs.specs.declared.graph.Graph.{Graph}
-use Rattle.graphs.specs.Masks.{has, kept_below, mask_by, members_from, members_below, twelve}
+use Rattle.graphs.specs.Masks.{has, kept_below, mask_by, members_from, members_below}
 use Rattle.graphs.specs.Model.{Model, In}
 use Rattle.graphs.specs.Edges.{linked, edge, edges}
 use Rattle.graphs.specs.Frontier.{reaches_above, frontier_by, frontier}
@@ -16,7 +16,7 @@ use Rattle.graphs.specs.Stored.{model_in, pick_of}
 use Rattle.graphs.specs.Bitwise.{has_by, by_skip, ones_below}
 use Rattle.graphs.specs.Linking.{edge_off, edge_on, edge_sym}
 use Rattle.graphs.specs.Joining.{has_edges}
-use Rattle.graphs.specs.Twelve.{Somewhere, drop_twelve, none_past, some_at, some_found}
+use Rattle.graphs.specs.Twelve.{Somewhere, none_past, some_at, some_found}
 use Rattle.graphs.specs.Walk.{below_in, below_out, from_in, from_out}
 
 -- # Tests that agree

@@ -1,14 +1,13 @@
 -- Edges: what a test over rows and columns finds, and that it finds the same from either side.
-use Rattle.std.specs.Prelude.{◌≡◌, ℕ, zero, suc, ◌+◌, ◌*◌, ◌%◌, ◌^◌, ◌<◌, ◌≤◌, Bool, true, false, cond, not, ◌&&◌, ◌||◌, List, length, ◌==◌, ◌≢◌, bit_or, nat_lt, slice_index, slice_index_or, slice_set, refl}
-use Rattle.std.proofs.Common.{sym, ap, ap₂, ◌∙◌, ⊎_elim, arith, get_or-set_same, get_or-set_other}
-use Rattle.std.proofs.lemmas.Bool.{and_from, and_left, and_right, cases_Bool, cases_lt, cases_order, cond-true, cond-false, eqb-true, eq-eqb, ne_eqb, both_ways, lt-ltb, le-ltb, not-false, or_parts}
+use Rattle.std.specs.Prelude.{◌≡◌, ℕ, zero, suc, ◌<◌, Bool, true, false, not, ◌&&◌, ◌||◌, List, ◌==◌, ◌≢◌, nat_lt, refl}
+use Rattle.std.proofs.Common.{sym, ap, ap₂, ◌∙◌, ⊎_elim, arith}
+use Rattle.std.proofs.lemmas.Bool.{and_right, cases_Bool, cases_lt, cases_order, cond-true, cond-false, eqb-true, eq-eqb, ne_eqb, both_ways, lt-ltb, le-ltb, not-false, or_parts}
 use Rattle.prices.specs.declared.price.Price.{Ghosts as Kind}
 use Rattle.graphs.specs.declared.graph.Graph.{Graph}
-use Rattle.graphs.specs.Masks.{has, mask_by, mem, members, some_below}
+use Rattle.graphs.specs.Masks.{has, mem, members, some_below}
 use Rattle.graphs.specs.Model.{Entries, Model, cost}
-use Rattle.graphs.specs.Edges.{priced, linked_in, linked, edge, edges}
+use Rattle.graphs.specs.Edges.{priced, linked_in, linked, edge}
 use Rattle.graphs.specs.Stored.{stored, count_at, model_in}
-use Rattle.graphs.specs.Bitwise.{has_by, by_set, by_skip}
 use Rattle.graphs.specs.Reading.{mem_members, count_read, entry_read}
 use Rattle.graphs.specs.Taken.{Present}
 

@@ -23,9 +23,7 @@ impl<'a, P: Price> Priced<'a, P> {
         requires { u ≢ v }
         ensures { result ≡ linked_in P.Price (count_at self.now.graph) (stored P.Price self.now.prices.now) u v }
     {
-        self.graph
-            .choices(u)
-            .any(|i| self.is_row_linked(u, v, i))
+        self.graph.choices(u).any(|i| self.is_row_linked(u, v, i))
     }
 
     fn is_edge(&self, u: Variable, v: Variable) -> bool

@@ -40,11 +40,7 @@ fn swept<'s, 't, P: Price>(
 }
 
 // The lowest price of all assignments, with one that has it, unless a frontier is too wide.
-fn eliminated<P: Price>(
-    graph: &Graph,
-    prices: &[P],
-    free: &mut [P],
-) -> Result<Best<P>, Fault>
+fn eliminated<P: Price>(graph: &Graph, prices: &[P], free: &mut [P]) -> Result<Best<P>, Fault>
     requires prices { 1710 ≤ length prices.now }
     requires free { 300 ≤ length free.old }
     ensures { SweptUnlessTurned P.Price graph.now prices.now result }

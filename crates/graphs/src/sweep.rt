@@ -32,9 +32,7 @@ impl<'a, P: Price> Priced<'a, P> {
             return;
         }
         for i in self.graph.choices(turn.variable) {
-            let price = self
-                .beside(turn.variable, i, &kept.picks)
-                .add(kept.price);
+            let price = self.beside(turn.variable, i, &kept.picks).add(kept.price);
             let mut picks = kept.picks;
             picks[turn.variable.number()] = i.number() as u8;
             let place = place_of(turn.front, turn.variable, &picks);

@@ -1,4 +1,4 @@
-use Rattle.std.proofs.Common.{◌≡◌, sym, refl, ap, ◌∙◌}
+use Rattle.std.proofs.Common.{ap, ◌∙◌}
 use Rattle.graphs.specs.declared.fault.Cause.TheVariants.{TurnedAway}
 use Rattle.graphs.specs.Outcome.{refused}
 use Rattle.graphs.specs.Eliminated.{widest_found, none_narrow}

@@ -1,4 +1,4 @@
-use Rattle.std.proofs.Common.{◌≡◌, ℕ, ◌&&◌, ltb, get_or, Option, Some, None, rules, tests, refl, sym, ap, ap₂, ◌∙◌}
+use Rattle.std.proofs.Common.{◌≡◌, ℕ, ◌&&◌, ltb, get_or, Option, Some, None, rules, tests, refl, ap, ap₂, ◌∙◌}
 use lib.Count.{ones}
 use Rattle.std.specs.List.{find}
 use Rattle.std.specs.Option.{option_map}

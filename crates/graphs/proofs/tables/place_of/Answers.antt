@@ -39,7 +39,7 @@ loop-u-preserved c =
       step.3 ∙ inv.0,
       omega (arith, step.0, step.2, inv.0),
       inv.2 ∙ ap (λ n. number_of (members_below f n) a) (sym step.1) ∙ sym (number_out f c.in-Some.u a (sym c.if-holds.ensures.value))
-      ∙ ap (λ n. number_of (members_below f n) a) (omega (arith, step.1, step.2)),
+          ∙ ap (λ n. number_of (members_below f n) a) (omega (arith, step.1, step.2)),
       inv.3,
     )
 

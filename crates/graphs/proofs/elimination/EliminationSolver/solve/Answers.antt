@@ -1,7 +1,6 @@
-use Rattle.std.proofs.Common.{◌≡◌, ◌≤◌, List, ◌++◌, Some, None, Ok, Err, length, take, sym, refl, ap, ◌∙◌, subst, arith}
+use Rattle.std.proofs.Common.{Ok, Err, length, take, sym, ap, ◌∙◌, subst, arith}
 use Rattle.std.proofs.lemmas.Result.{err_from_is_err_and}
 use Rattle.graphs.specs.Frontier.{widest, at_depth_zero}
-use Rattle.graphs.specs.Kept.{Swept}
 use Rattle.graphs.specs.Outcome.{Chosen}
 use Rattle.graphs.specs.Stored.{model_of, pick_of}
 use Rattle.graphs.specs.Eliminated.{SweptUnlessTurned, answer_turned, answer_swept}

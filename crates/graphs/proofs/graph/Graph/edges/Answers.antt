@@ -1,5 +1,5 @@
 use Rattle.std.proofs.Common.{ltb, length, Some, sym, ap, ap₂, ◌∙◌, subst, arith}
-use Rattle.std.proofs.lemmas.Bool.{cond-true, cond-false, lt-ltb, le-ltb}
+use Rattle.std.proofs.lemmas.Bool.{cond-false, le-ltb}
 use Rattle.graphs.specs.Edges.{EdgesOf}
 use Rattle.graphs.specs.Stored.{model_in, model_of}
 use Rattle.graphs.proofs.Asking.{all_edges}

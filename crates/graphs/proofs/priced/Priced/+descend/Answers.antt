@@ -1,8 +1,8 @@
-use Rattle.std.proofs.Common.{◌≡◌, ◌+◌, ◌<◌, ◌≤◌, true, length, slice_set, sym, ap, ◌∙◌, subst, arith}
+use Rattle.std.proofs.Common.{◌≡◌, ◌+◌, ◌<◌, true, length, slice_set, sym, ap, ◌∙◌, arith}
 use Rattle.graphs.specs.Masks.{has, members_from, members_below}
 use Rattle.graphs.specs.Model.{beside}
 use Rattle.graphs.specs.Search.{search, tried, each}
-use Rattle.graphs.specs.Stored.{count_at, model_at, pick_of}
+use Rattle.graphs.specs.Stored.{model_at, pick_of}
 use Rattle.graphs.specs.Holding.{found_in}
 use Rattle.graphs.specs.Reading.{count_read}
 use Rattle.graphs.proofs.Stepping.{each_more, search_done, search_in, search_out, tried_deeper, tried_passed}
@@ -41,11 +41,11 @@ loop-i-preserved-then-not-at_most g t c =
       step.3 ∙ inv.0,
       omega (arith, step.0, step.2, step.3),
       c.descend-then-not-at_most.ensures
-      ∙ ap (λ m. search k md (members_from p (v + 1)) (members_below p (v + 1)) (pick_of (slice_set xs v m)) c.add-next.result (found_in c.loop-i.best)) n
-      ∙ tried_deeper k md p v i xs c.args.price c.add-next.result is (found_in c.loop-i.best) long here (sym c.if-not-at_most.ensures)
-      ∙ ap (λ m. f m (found_in c.loop-i.best)) step.1
-      ∙ ap (f c.loop-i.i-iterator.next) inv.2 ∙ sym (each_more f c.loop-i.i-iterator.next (found_in c.args.best.now))
-      ∙ ap (λ m. each f m (found_in c.args.best.now)) more,
+          ∙ ap (λ m. search k md (members_from p (v + 1)) (members_below p (v + 1)) (pick_of (slice_set xs v m)) c.add-next.result (found_in c.loop-i.best)) n
+          ∙ tried_deeper k md p v i xs c.args.price c.add-next.result is (found_in c.loop-i.best) long here (sym c.if-not-at_most.ensures)
+          ∙ ap (λ m. f m (found_in c.loop-i.best)) step.1
+          ∙ ap (f c.loop-i.i-iterator.next) inv.2 ∙ sym (each_more f c.loop-i.i-iterator.next (found_in c.args.best.now))
+          ∙ ap (λ m. each f m (found_in c.args.best.now)) more,
     )
 
 pub loop-i-preserved : goal.loop-i-preserved
@@ -65,9 +65,9 @@ loop-i-preserved g t c =
       step.3 ∙ inv.0,
       omega (arith, step.0, step.2, step.3),
       tried_passed k md p v i xs c.args.price c.add-next.result is (found_in c.loop-i.best) (sym c.if-not-at_most.ensures)
-      ∙ ap (λ m. f m (found_in c.loop-i.best)) step.1
-      ∙ ap (f c.loop-i.i-iterator.next) inv.2 ∙ sym (each_more f c.loop-i.i-iterator.next (found_in c.args.best.now))
-      ∙ ap (λ m. each f m (found_in c.args.best.now)) more,
+          ∙ ap (λ m. f m (found_in c.loop-i.best)) step.1
+          ∙ ap (f c.loop-i.i-iterator.next) inv.2 ∙ sym (each_more f c.loop-i.i-iterator.next (found_in c.args.best.now))
+          ∙ ap (λ m. each f m (found_in c.args.best.now)) more,
     )
 
 pub returns : goal.returns

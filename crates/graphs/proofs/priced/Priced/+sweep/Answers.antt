@@ -1,7 +1,7 @@
-use Rattle.std.proofs.Common.{◌≡◌, ◌+◌, ◌<◌, ◌≤◌, false, true, length, get_or, sym, ap, ◌∙◌, subst, arith}
+use Rattle.std.proofs.Common.{◌≡◌, ◌+◌, ◌≤◌, true, length, sym, ap, ◌∙◌, subst, arith}
 use Rattle.graphs.specs.Masks.{has, members_below}
-use Rattle.graphs.specs.Stored.{model_at, pick_of}
-use Rattle.graphs.specs.Kept.{front_at, prices_in, picks_in, TableAt, Next, Every, Swept}
+use Rattle.graphs.specs.Stored.{pick_of}
+use Rattle.graphs.specs.Kept.{prices_in, picks_in, TableAt, Every, Swept}
 use Rattle.graphs.specs.Fronts.{front_members, frontier_same}
 use Rattle.graphs.specs.Ending.{ended, skip_front, skip_kept, narrow_front}
 use Rattle.graphs.proofs.priced.Priced.+sweep.Goals as goal

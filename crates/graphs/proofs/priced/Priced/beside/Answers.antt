@@ -1,4 +1,4 @@
-use Rattle.std.proofs.Common.{◌≡◌, ◌+◌, ◌<◌, ◌≤◌, sym, ap, ◌∙◌, ap₂, subst, arith}
+use Rattle.std.proofs.Common.{◌≡◌, ◌+◌, ◌<◌, sym, ap, ◌∙◌, ap₂, subst, arith}
 use Rattle.graphs.specs.Masks.{members_below}
 use Rattle.graphs.specs.Model.{beside, cost}
 use Rattle.graphs.specs.Stored.{stored, model_at, pick_of}
@@ -15,7 +15,7 @@ loop-u-init g c =
       ap (λ r. r.end) made ∙ c.before-u-items.ensures.end,
       omega (arith, from),
       c.vector-price.ensures ∙ vector_read g.P.Price s.graph s.prices.now c.args.v c.args.i c.requires.0
-      ∙ sym (ap (λ n. beside g.P.Price (model_at g.P.Price s).entries c.args.v (members_below s.graph.present n) c.args.i (pick_of c.args.taken.now)) from),
+          ∙ sym (ap (λ n. beside g.P.Price (model_at g.P.Price s).entries c.args.v (members_below s.graph.present n) c.args.i (pick_of c.args.taken.now)) from),
     )
 
 pub known-j-requires : goal.known-j-requires
@@ -37,8 +37,8 @@ loop-u-preserved g c =
       step.3 ∙ inv.0,
       omega (arith, step.0, step.2, inv.0),
       inv.2 ∙ ap (λ n. beside g.P.Price t c.args.v (members_below s.graph.present n) c.args.i a) (sym step.1)
-      ∙ sym (beside_out g.P.Price t s.graph.present c.args.v c.in-Some.u c.args.i a (sym c.if-has.ensures.value))
-      ∙ ap (λ n. beside g.P.Price t c.args.v (members_below s.graph.present n) c.args.i a) (omega (arith, step.1, step.2)),
+          ∙ sym (beside_out g.P.Price t s.graph.present c.args.v c.in-Some.u c.args.i a (sym c.if-has.ensures.value))
+          ∙ ap (λ n. beside g.P.Price t c.args.v (members_below s.graph.present n) c.args.i a) (omega (arith, step.1, step.2)),
     )
 
 pub loop-u-preserved-then-has : goal.loop-u-preserved-then-has
@@ -58,11 +58,11 @@ loop-u-preserved-then-has g c =
       step.3 ∙ inv.0,
       omega (arith, step.0, step.2, inv.0),
       c.add-price.ensures
-      ∙ ap₂ k.sum
-      (c.entry.ensures ∙ ap (cost (stored k s.prices.now) c.args.v u c.args.i) j ∙ entry_read k s.graph s.prices.now c.args.v u c.args.i (a u) c.requires.0 there (λ q. omega (arith, low)))
-      (inv.2 ∙ ap (λ n. beside k t c.args.v (members_below s.graph.present n) c.args.i a) (sym step.1))
-      ∙ sym (beside_in k t s.graph.present c.args.v u c.args.i a e)
-      ∙ ap (λ n. beside k t c.args.v (members_below s.graph.present n) c.args.i a) more,
+          ∙ ap₂ k.sum
+          (c.entry.ensures ∙ ap (cost (stored k s.prices.now) c.args.v u c.args.i) j ∙ entry_read k s.graph s.prices.now c.args.v u c.args.i (a u) c.requires.0 there (λ q. omega (arith, low)))
+          (inv.2 ∙ ap (λ n. beside k t c.args.v (members_below s.graph.present n) c.args.i a) (sym step.1))
+          ∙ sym (beside_in k t s.graph.present c.args.v u c.args.i a e)
+          ∙ ap (λ n. beside k t c.args.v (members_below s.graph.present n) c.args.i a) more,
     )
 
 pub returns : goal.returns

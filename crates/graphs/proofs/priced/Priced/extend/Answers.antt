@@ -1,8 +1,8 @@
-use Rattle.std.proofs.Common.{◌≡◌, ℕ, ◌+◌, ◌<◌, ◌≤◌, false, [], get_or, set, length, sym, ap, ap₂, ◌∙◌, subst, arith}
+use Rattle.std.proofs.Common.{◌≡◌, ℕ, ◌+◌, ◌<◌, false, set, length, sym, ap, ap₂, ◌∙◌, subst, arith}
 use Rattle.graphs.specs.Masks.{members_below}
 use Rattle.graphs.specs.Model.{beside, put}
-use Rattle.graphs.specs.Stored.{count_at, model_at, pick_of}
-use Rattle.graphs.specs.Kept.{prices_in, picks_in, number_of, KeptAt, Before}
+use Rattle.graphs.specs.Stored.{model_at, pick_of}
+use Rattle.graphs.specs.Kept.{prices_in, picks_in, KeptAt, Before}
 use Rattle.graphs.specs.Reading.{count_read}
 use Rattle.graphs.specs.Walk.{pick_set}
 use Rattle.graphs.specs.Turning.{turn_begins, turn_ends, turn_skips, turn_more, picks_taken, set_small, improves}
@@ -40,8 +40,7 @@ beside-requires g c =
     let i = c.in-Some.i in
     let hi : i < (model_at k s).count v = omega (arith, step.0, step.1, inv.0, count_read k s.graph s.prices.now v n.variable n.present) in
     let xs = c.kept-kept.result.picks in
-    let lj = c.kept-kept.ensures.picks in
-    (
+    let lj = c.kept-kept.ensures.picks in (
       record { variable = n.variable; present = n.present; within = omega (arith, step.0, step.1, inv.0) },
       picks_taken k s.graph s.prices.now v fr n t l c.requires.before j i low used hi xs lj,
     )

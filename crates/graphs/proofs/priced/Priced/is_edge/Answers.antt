@@ -1,4 +1,4 @@
-use Rattle.std.proofs.Common.{sym, ap, ◌∙◌, eqb-true, eq-eqb}
+use Rattle.std.proofs.Common.{sym, ◌∙◌, eqb-true, eq-eqb}
 use Rattle.std.proofs.lemmas.Bool.{both_ways}
 use Rattle.graphs.specs.Linking.{edge_same, edge_off, edge_off_right, edge_read}
 use Rattle.graphs.proofs.priced.Priced.is_edge.Goals as goal

@@ -1,4 +1,4 @@
-use Rattle.std.proofs.Common.{◌≡◌, ◌+◌, ◌<◌, ◌≤◌, sym, ap, ◌∙◌, ap₂, subst, arith}
+use Rattle.std.proofs.Common.{◌≡◌, ◌+◌, ◌<◌, sym, ap, ◌∙◌, ap₂, subst, arith}
 use Rattle.graphs.specs.Masks.{members_below}
 use Rattle.graphs.specs.Model.{beside, sum_over}
 use Rattle.graphs.specs.Stored.{count_at, model_at, pick_of}
@@ -42,11 +42,11 @@ loop-v-preserved-then-has g c =
       step.3 ∙ inv.0,
       omega (arith, step.0, step.2, inv.0),
       c.add-price.ensures
-      ∙ ap₂ k.sum
-      (c.beside.ensures ∙ ap (λ n. beside k es v (members_below s.graph.present v) n a) i)
-      (inv.2 ∙ ap (λ n. sum_over k es (members_below s.graph.present n) a) (sym step.1))
-      ∙ sym (ap (λ l. sum_over k es l a) (below_in s.graph.present v (sym c.if-has.ensures.value)))
-      ∙ ap (λ n. sum_over k es (members_below s.graph.present n) a) more,
+          ∙ ap₂ k.sum
+          (c.beside.ensures ∙ ap (λ n. beside k es v (members_below s.graph.present v) n a) i)
+          (inv.2 ∙ ap (λ n. sum_over k es (members_below s.graph.present n) a) (sym step.1))
+          ∙ sym (ap (λ l. sum_over k es l a) (below_in s.graph.present v (sym c.if-has.ensures.value)))
+          ∙ ap (λ n. sum_over k es (members_below s.graph.present n) a) more,
     )
 
 pub loop-v-preserved : goal.loop-v-preserved
@@ -59,8 +59,8 @@ loop-v-preserved g c =
       step.3 ∙ inv.0,
       omega (arith, step.0, step.2, inv.0),
       inv.2 ∙ ap (λ n. sum_over g.P.Price es (members_below s.graph.present n) a) (sym step.1)
-      ∙ sym (ap (λ l. sum_over g.P.Price es l a) (below_out s.graph.present c.in-Some.v (sym c.if-has.ensures.value)))
-      ∙ ap (λ n. sum_over g.P.Price es (members_below s.graph.present n) a) (omega (arith, step.1, step.2)),
+          ∙ sym (ap (λ l. sum_over g.P.Price es l a) (below_out s.graph.present c.in-Some.v (sym c.if-has.ensures.value)))
+          ∙ ap (λ n. sum_over g.P.Price es (members_below s.graph.present n) a) (omega (arith, step.1, step.2)),
     )
 
 pub returns : goal.returns
