@@ -13,11 +13,11 @@ use Rattle.graphs.specs.Masks.{has, mem, twelve, up_from}
 use Rattle.graphs.specs.Model.{Model, lowest}
 use Rattle.graphs.specs.Edges.{edges, EdgesOf}
 use Rattle.graphs.specs.Frontier.{frontier_by, too_wide, widest, at_depth_zero}
-use Rattle.graphs.specs.Kept.{prices_in, KeptAt, Every, Narrow, Swept}
+use Rattle.graphs.specs.Kept.{Narrow, Swept}
 use Rattle.graphs.specs.Outcome.{outcome, settled, fitted, refused}
 use Rattle.graphs.specs.Stored.{model_in, pick_of}
 use Rattle.graphs.specs.Bitwise.{on_twelve, all_twelve}
-use Rattle.graphs.specs.Ending.{begun_table, swept_lowest}
+use Rattle.graphs.specs.Ending.{swept_lowest}
 use Rattle.graphs.specs.Fronts.{frontier_same}
 use Rattle.graphs.specs.Outcomes.{outcome_long}
 use Rattle.graphs.specs.Reading.{mem_members}
@@ -97,10 +97,6 @@ module _ {P : Type 0} (k : Kind P) where
       ap₂ (λ a b. a && nat_lt 3 (count_ones b)) (sym (mem_members g.present v l)) (frontier_same (λ y. slice_index es y) (edges k (model_in k g m)) v h)))
 
 -- # The first table
-pub first_table : {P : Type 0} (k : Kind P) (g : Graph) (pr : List P) (t : List P) (l : ℕ → ℕ → ℕ) → prices_in k t 0 ≡ k.least → ((c : ℕ) → 0 < c → prices_in k t c ≡ k.greatest) →
-    KeptAt k g pr 0 (prices_in k t) l Every
-first_table k g pr t l e h = begun_table k g pr (prices_in k t) l e (λ c b ne. h c (omega arith))
-
 -- # The answers
 -- what is found of a graph, or that it is turned away
 abbrev pub SweptUnlessTurned : {P : Type 0} → Kind P → Graph → List P → Result (Best P) Fault → Type 0

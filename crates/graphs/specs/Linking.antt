@@ -22,13 +22,9 @@ some_or (suc n) s t = ap (λ b. (s n || t n) || b) (some_or n s t) ∙ swap (s n
     swap false true false d = refl
     swap false false c d = refl
 
-some_same : (n : ℕ) (s t : ℕ → Bool) → ((i : ℕ) → s i ≡ t i) → some_below n s ≡ some_below n t
+some_same : (n : ℕ) (s t : ℕ → Bool) → ((i : ℕ) → i < n → s i ≡ t i) → some_below n s ≡ some_below n t
 some_same zero s t h = refl
-some_same (suc n) s t h = ap₂ ◌||◌ (h n) (some_same n s t h)
-
-some_same_below : (n : ℕ) (s t : ℕ → Bool) → ((i : ℕ) → i < n → s i ≡ t i) → some_below n s ≡ some_below n t
-some_same_below zero s t h = refl
-some_same_below (suc n) s t h = ap₂ ◌||◌ (h n (omega arith)) (some_same_below n s t (λ i l. h i (omega arith)))
+some_same (suc n) s t h = ap₂ ◌||◌ (h n (omega arith)) (some_same n s t (λ i l. h i (omega arith)))
 
 some_none : (n : ℕ) → some_below n (λ _. false) ≡ false
 some_none zero = refl
@@ -54,7 +50,7 @@ cost_sym e x y i j h = ⊎_elim (λ q. absurd (h q)) (⊎_elim
 module _ {P : Type 0} (k : Kind P) (g : Model P) where
   pub linked_sym : (u v : ℕ) → (u ≢ v) → linked k g u v ≡ linked k g v u
   linked_sym u v ne = some_swap (g.count u) (g.count v) (priced k g u v)
-      ∙ some_same (g.count v) _ _ (λ j. some_same (g.count u) _ _ (λ i. ap (λ p. not (k.at_most p k.least)) (cost_sym g.entries u v i j ne)))
+      ∙ some_same (g.count v) _ _ (λ j _. some_same (g.count u) _ _ (λ i _. ap (λ p. not (k.at_most p k.least)) (cost_sym g.entries u v i j ne)))
 
   -- without a link every entry within the counts is zero
   pub no_link : (u v i j : ℕ) → linked k g u v ≡ false → i < g.count u → j < g.count v → cost g.entries u v i j ≡ k.least
@@ -83,7 +79,7 @@ module _ {P : Type 0} (k : Kind P) (g : Model P) where
 -- what is read of the prices is what the model has
 pub linked_read : {P : Type 0} (k : Kind P) (g : Graph) (m : List P) (u v : ℕ) → Present g u → Present g v → (u ≢ v) → linked_in k (count_at g) (stored k m) u v ≡ linked k (model_in k g m) u v
 linked_read k g m u v pu pv ne =
-    some_same_below (count_at g u) _ _ (λ i hi. some_same_below (count_at g v) _ _ (λ j hj.
+    some_same (count_at g u) _ _ (λ i hi. some_same (count_at g v) _ _ (λ j hj.
     ap (λ p. not (k.at_most p k.least)) (entry_read k g m u v i j
     (record { variable = pu.variable; present = pu.present; within = hi }) (record { variable = pv.variable; present = pv.present; within = hj }) ne)))
     ∙ ap₂ (λ a b. some_below a (λ i. some_below b (priced k (model_in k g m) u v i)))

@@ -1,7 +1,7 @@
 -- The cases of an outcome, and what follows where nothing fits.
 use Rattle.std.specs.Prelude.{◌≡◌, ℕ, ◌≤◌, Bool, true, false, cond, Some, None, Ok, Err, Option, Result, nat_lt, refl}
 use Rattle.std.proofs.Common.{sym, ap, ◌∙◌, subst, arith}
-use Rattle.std.proofs.lemmas.Bool.{le-ltb, cond-true, cond-false}
+use Rattle.std.proofs.lemmas.Bool.{le-ltb, cond-false}
 use Rattle.prices.specs.declared.price.Price.{Ghosts as Kind}
 use Rattle.graphs.specs.declared.fault.Fault.{Fault}
 use Rattle.graphs.specs.declared.fault.Cause.TheVariants.{Short, NothingFits}
@@ -13,13 +13,6 @@ use Rattle.graphs.specs.Plain.{lowest_met}
 module _ {P : Type 0} (k : Kind P) (need : ℕ) (turned : Option (ℕ × ℕ)) (g : Model P) (len : ℕ) where
   pub outcome_long : need ≤ len → outcome k need turned g len ≡ settled k turned (lowest k g)
   outcome_long h = cond-false (nat_lt len need) _ _ (le-ltb len need h)
-
-module _ {P : Type 0} (k : Kind P) (p : P) where
-  pub fitted_top : k.at_most k.greatest p ≡ true → fitted k p ≡ Err (refused NothingFits)
-  fitted_top h = cond-true (k.at_most k.greatest p) _ _ h
-
-  pub fitted_below : k.at_most k.greatest p ≡ false → fitted k p ≡ Ok p
-  fitted_below h = cond-false (k.at_most k.greatest p) _ _ h
 
 -- # Nothing fits only where the lowest total is top
 abbrev number_of : {P : Type 0} → Result P Fault → ℕ

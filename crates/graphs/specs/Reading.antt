@@ -2,7 +2,7 @@
 use Rattle.std.specs.Prelude.{◌≡◌, ℕ, zero, suc, ◌<◌, ◌≤◌, Bool, true, false, cond, ◌&&◌, ◌||◌, List, [], ◌∷◌, filter, ◌==◌, ◌≢◌, nat_lt, refl}
 use Rattle.std.proofs.Common.{sym, ap, ◌∙◌, inl, inr, ⊎_elim, arith}
 use Rattle.std.specs.List.{AllByRecursion}
-use Rattle.std.proofs.ByRecursion.{All-weaker, all_kept_by, kept_by_passes}
+use Rattle.std.proofs.ByRecursion.{All-weaker}
 use Rattle.std.proofs.lemmas.Bool.{and_from, and_right, cases_Bool, cases_order, cond_both, cond-true, cond-false, eqb-true, eq-eqb, both_ways, lt-ltb, le-ltb, or_cases, or_left, or_right}
 use Rattle.prices.specs.declared.price.Price.{Ghosts as Kind}
 use Rattle.graphs.specs.declared.graph.Graph.{Graph}
@@ -11,7 +11,6 @@ use Rattle.graphs.specs.Model.{Proper, Ascending, In, cost}
 use Rattle.graphs.specs.Stored.{stored, count_at, model_in}
 use Rattle.graphs.specs.Taken.{HasChoice}
 use Rattle.graphs.specs.Below.{below}
-use Rattle.graphs.specs.Bitwise.{all_twelve}
 use Rattle.graphs.specs.Lists.{asc_kept, all_any}
 use Rattle.graphs.specs.Twelve.{count_fits}
 
@@ -62,12 +61,6 @@ up_ascending v (suc n) = (All-weaker (λ y. suc v ≤ y) _ (λ y h. omega arith)
 pub members_ascend : (m : ℕ) → Ascending (members m)
 unfolding twelve
 members_ascend m = asc_kept (has m) twelve (up_ascending 0 12)
-
-pub members_have : (m : ℕ) → AllByRecursion (λ v. has m v ≡ true) (members m)
-members_have m = kept_by_passes (has m) twelve
-
-pub members_below_lem : (m : ℕ) → AllByRecursion (λ v. v < 12) (members m)
-members_below_lem m = all_kept_by (has m) (λ v. v < 12) twelve all_twelve
 
 -- # Counts and entries
 module _ {P : Type 0} (k : Kind P) (g : Graph) (m : List P) where

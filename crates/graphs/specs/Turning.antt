@@ -9,13 +9,13 @@ use Rattle.prices.specs.declared.price.Price.{Ghosts as Kind}
 use Rattle.graphs.specs.declared.graph.Graph.{Graph}
 use Rattle.graphs.specs.Masks.{has, members_from, members_below}
 use Rattle.graphs.specs.Model.{Model, In, beside, sum_over, Within, put}
-use Rattle.graphs.specs.Stored.{count_at, model_in, pick_of}
+use Rattle.graphs.specs.Stored.{model_in, pick_of}
 use Rattle.graphs.specs.Taken.{Taken}
 use Rattle.graphs.specs.Kept.{reaches, front, number_of, Met, Kept, prices_in, picks_in, front_at, KeptAt, Next, Before, Below, Every, Five}
 use Rattle.graphs.specs.Lists.{all_in}
 use Rattle.graphs.specs.Walk.{below_in, from_in}
 use Rattle.graphs.specs.Reading.{count_few, count_read}
-use Rattle.graphs.specs.Improving.{at_place, at_same, at_other, improved, stood, fewer, follows, extended, nothing, none_kept, number_below}
+use Rattle.graphs.specs.Improving.{at_place, at_same, at_other, improved, stood, fewer, follows, extended, nothing, number_below}
 
 -- # Writes to a table
 pub prices_set : {P : Type 0} (k : Kind P) (t : List P) (c : ℕ) (q : P) → c < length t → prices_in k (slice_set t c q) ≡ at_place (prices_in k t) c q
@@ -46,9 +46,6 @@ in_below p (suc v) y h e = ⊎_elim
 
 pub all_small : (p v : ℕ) (xs : List ℕ) → AllByRecursion (λ y. pick_of xs y < 5) (members_below p v) → Five p v xs
 all_small p v xs h y l e = all_in (λ z. pick_of xs z < 5) (members_below p v) y h (in_below p v y l e)
-
-pub next_count : {P : Type 0} (k : Kind P) (g : Graph) (m : List P) (v mask : ℕ) → Next k g m v mask → (n : ℕ) → n ≡ count_at g v → n ≡ (model_in k g m).count v
-next_count k g m v mask next n e = e ∙ sym (count_read k g m v next.variable next.present)
 
 below_apart : (p v x : ℕ) → v ≤ x → AllByRecursion (λ y. (y ≢ x)) (members_below p v)
 below_apart p zero x h = tt
@@ -158,9 +155,6 @@ improves k t t2 l l2 c q xs ht hl et el =
     (cases_Bool test)
 
 module _ {P : Type 0} (k : Kind P) (g : Graph) (pr : List P) (v : ℕ) (t : ℕ → P) (l : ℕ → ℕ → ℕ) where
-  pub starts_empty : ((c : ℕ) → c < 125 → t c ≡ k.greatest) → KeptAt k g pr (v + 1) t l (Below k g pr v 0)
-  starts_empty h = fewer k (model_in k g pr) _ _ t l (λ _. ⊥) (Below k g pr v 0) (λ b _ r. omega arith) (none_kept k (model_in k g pr) _ _ t l h)
-
   pub all_covered : (j : ℕ) → 125 ≤ j → has g.present v ≡ true → length (front_at k g pr v) ≤ 3 → KeptAt k g pr (v + 1) t l (Below k g pr v j) → KeptAt k g pr (v + 1) t l Every
   all_covered j hj has slim h = fewer k (model_in k g pr) _ _ t l (Below k g pr v j) Every
       (λ b ok _. let ok2 : Within (model_in k g pr).count (v ∷ members_below g.present v) b = subst (λ d. Within (model_in k g pr).count d b) (below_in g.present v has) ok in

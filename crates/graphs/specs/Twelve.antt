@@ -37,9 +37,6 @@ some_at (suc n) t i h e = ⊎_elim
     (λ l. let q : n ≡ i = omega arith in or_left (t n) (some_below n t) (ap t q ∙ e))
     (cases_lt i n)
 
-pub some_more : (n : ℕ) (t : ℕ → Bool) → some_below n t ≡ false → t n ≡ false → some_below (n + 1) t ≡ false
-some_more n t h e = ap (λ m. some_below m t) (add-one n) ∙ or_from (t n) (some_below n t) e h
-
 pub some_none : (n : ℕ) (t : ℕ → Bool) → ((i : ℕ) → i < n → t i ≡ false) → some_below n t ≡ false
 some_none zero t h = refl
 some_none (suc n) t h = or_from (t n) (some_below n t) (h n (omega arith)) (some_none n t (λ i l. h i (omega arith)))

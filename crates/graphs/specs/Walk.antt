@@ -1,14 +1,12 @@
 -- The members of a set, one at a time.
 use Rattle.std.specs.Prelude.{◌≡◌, ℕ, ◌+◌, ◌<◌, true, false, List, ◌∷◌, length, slice_set}
-use Rattle.std.proofs.Common.{sym, ap, ◌∙◌, subst, ⊎_elim, arith, add-one, get_or-set_same, get_or-set_other}
+use Rattle.std.proofs.Common.{sym, ap, ◌∙◌, ⊎_elim, add-one, get_or-set_same, get_or-set_other}
 use Rattle.std.proofs.Math.Path.{fun_ext}
-use Rattle.std.proofs.lemmas.Bool.{both_ways, cond-true, cond-false, cases_eq}
+use Rattle.std.proofs.lemmas.Bool.{cond-true, cond-false, cases_eq}
 use Rattle.prices.specs.declared.price.Price.{Ghosts as Kind}
-use Rattle.graphs.specs.declared.graph.Graph.{Graph}
 use Rattle.graphs.specs.Masks.{has, members_from, members_below}
 use Rattle.graphs.specs.Model.{Entries, cost, beside, put}
-use Rattle.graphs.specs.Stored.{count_at, pick_of}
-use Rattle.graphs.specs.Taken.{Taken}
+use Rattle.graphs.specs.Stored.{pick_of}
 use Rattle.graphs.specs.Plain.{put_same, put_other}
 use Rattle.graphs.specs.Twelve.{next_in, next_out}
 
@@ -30,18 +28,6 @@ pick_set xs v i h = fun_ext (λ y. ⊎_elim
     (λ e. ap (pick_of (slice_set xs v i)) e ∙ get_or-set_same xs v i 0 h ∙ sym (ap (put (pick_of xs) v i) e ∙ put_same (pick_of xs) v i))
     (λ ne. get_or-set_other xs v y i 0 ne ∙ sym (put_other (pick_of xs) v i y ne))
     (cases_eq y v))
-
-pub taken_set : (g : Graph) (v : ℕ) (xs : List ℕ) (i : ℕ) → v < length xs → i < count_at g v → Taken g v xs → Taken g (v + 1) (slice_set xs v i)
-taken_set g v xs i h l s y b e = ⊎_elim
-    (λ q. subst (λ z. pick_of (slice_set xs v i) z < count_at g z) (sym q) (subst (λ n. n < count_at g v) (sym (get_or-set_same xs v i 0 h)) l))
-    (λ ne. subst (λ n. n < count_at g y) (sym (get_or-set_other xs v y i 0 ne)) (s y (omega arith) e))
-    (cases_eq y v)
-
-pub taken_out : (g : Graph) (v : ℕ) (xs : List ℕ) → has g.present v ≡ false → Taken g v xs → Taken g (v + 1) xs
-taken_out g v xs n s y b e = ⊎_elim
-    (λ q. absurd (both_ways (has g.present v) n (ap (has g.present) (sym q) ∙ e)))
-    (λ ne. s y (omega arith) e)
-    (cases_eq y v)
 
 module _ {P : Type 0} (k : Kind P) (t : Entries P) where
   pub beside_in : (p v u i : ℕ) (a : ℕ → ℕ) → has p u ≡ true → beside k t v (members_below p (u + 1)) i a ≡ k.sum (cost t v u i (a u)) (beside k t v (members_below p u) i a)
