@@ -13,9 +13,8 @@ pub(crate) struct Asked {
 
 fn check_edges<P: Sample>(case: &Case<P>, u: Variable, mask: u16, failed: &mut Counter) {
     for v in Variable::all() {
-        let found = mask & v.bit() != 0;
-        let joined = u.number() != v.number() && case.is_edge(u, v);
-        failed.expect(found == joined);
+        let joined = u != v && case.is_edge(u, v);
+        failed.expect(v.is_in(mask) == joined);
     }
 }
 

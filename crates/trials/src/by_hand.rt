@@ -1,8 +1,10 @@
 // What a graph's answer is, by trying all assignments and summing each from nothing.
 use crate::case::Case;
+use crate::refusal::NOTHING_FITS;
 use crate::sample::Sample;
 use crate::shape::Shape;
 use crate::variable::Variable;
+use refusals::Told;
 use std::iter;
 
 // No graph has more: five choices for each of twelve variables.
@@ -28,7 +30,7 @@ impl<P: Sample> Case<P> {
         v.below()
             .filter(|u| self.shape.has(*u))
             .map(|u| self.pair_price(u, v, picks[u.index()], picks[v.index()]))
-            .fold(P::zero(), |total, price| total.add(price))
+            .fold(P::zero(), P::add)
     }
 
     pub(crate) fn total(&self, picks: &[u8; 12]) -> P {
@@ -38,15 +40,25 @@ impl<P: Sample> Case<P> {
                 self.choice_price(v, picks[v.index()])
                     .add(self.total_below(v, picks))
             })
-            .fold(P::zero(), |total, price| total.add(price))
+            .fold(P::zero(), P::add)
     }
 
-    pub(crate) fn lowest(&self) -> P {
+    fn lowest(&self) -> P {
         iter::successors(Some([0; 12]), |picks| next_assignment(&self.shape, picks))
             .take(ALL_ASSIGNMENTS)
             .map(|picks| self.total(&picks))
             .fold(P::top(), |lowest, price| {
                 if price.at_most(lowest) { price } else { lowest }
             })
+    }
+
+    // What is right where the graph is taken and the memory suffices.
+    pub(crate) fn answer(&self) -> Result<P, Told> {
+        let lowest = self.lowest();
+        if lowest == P::top() {
+            Err(NOTHING_FITS)
+        } else {
+            Ok(lowest)
+        }
     }
 }

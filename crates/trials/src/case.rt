@@ -65,8 +65,8 @@ fn draw_prices<P: Sample>(chance: &mut Chance) -> [P; NEED] {
 }
 
 impl<P: Sample> Case<P> {
-    // No variables and no prices, to be drawn. A case is made where its kind is known and drawn in place:
-    // that an array of any kind fits the address space is not proved where a generic function makes one.
+    // No variables and no prices, to be drawn.
+    // Made in `main` alone: in a function for any kind it did not prove that so many prices fit the address space.
     pub(crate) fn new() -> Case<P> {
         Case {
             shape: Shape::default(),
@@ -84,7 +84,7 @@ impl<P: Sample> Case<P> {
         let web = Web::draw(chance, family);
         for v in Variable::all() {
             self.thin(chance, &web, v);
-            if let Family::Widest = family {
+            if family == Family::Widest {
                 self.favour_last(v);
             }
         }

@@ -2,12 +2,11 @@
 use crate::asked::Asked;
 use crate::case::Case;
 use crate::chance::Chance;
-use crate::refusal::{NOTHING_FITS, turned_away};
+use crate::refusal::turned_away;
 use crate::sample::Sample;
 use crate::tally::Tally;
 use crate::trial::try_solver;
 use graphs::{BranchAndBound, Elimination};
-use refusals::Told;
 use std::io;
 
 const GRAPHS: u32 = 2000;
@@ -20,17 +19,9 @@ struct Tallies {
     asked: Asked,
 }
 
-fn answer<P: Sample>(lowest: P) -> Result<P, Told> {
-    if lowest == P::top() {
-        Err(NOTHING_FITS)
-    } else {
-        Ok(lowest)
-    }
-}
-
 // Branch and bound takes every graph; elimination takes those with narrow frontiers.
 fn try_graph<P: Sample>(case: &Case<P>, tallies: &mut Tallies) {
-    let always = answer(case.lowest());
+    let always = case.answer();
     // A graph that is turned away is not looked at further.
     let narrow = match case.too_wide_after() {
         Some(variable) => Err(turned_away(variable)),

@@ -9,7 +9,7 @@ use std::array;
 // How many assignments a graph may have, so that all can be tried.
 const MOST_ASSIGNMENTS: u32 = 2000;
 
-#[derive(Clone, Copy)]
+#[derive(Clone, Copy, PartialEq, Eq)]
 pub(crate) enum Family {
     // Any counts and any edges.
     Any,
@@ -87,7 +87,7 @@ impl Shape {
     }
 
     pub(crate) fn has(&self, v: Variable) -> bool {
-        self.present & v.bit() != 0
+        v.is_in(self.present)
     }
 
     // How many choices v has in the graph; none where it is absent.

@@ -52,15 +52,16 @@ pub(crate) struct Tally {
 }
 
 impl Tally {
-    pub(crate) fn count<P: Copy>(&mut self, answer: &Result<P, Fault>) {
-        match *answer {
-            Ok(_) => self.answered.add(),
+    pub(crate) fn count<P>(&mut self, answer: &Result<P, Fault>) {
+        let outcome = match answer {
+            Ok(_) => &mut self.answered,
             Err(fault) => match fault.cause {
-                Cause::Short => self.short.add(),
-                Cause::TurnedAway { .. } => self.turned_away.add(),
-                Cause::NothingFits => self.nothing_fits.add(),
+                Cause::Short => &mut self.short,
+                Cause::TurnedAway { .. } => &mut self.turned_away,
+                Cause::NothingFits => &mut self.nothing_fits,
             },
-        }
+        };
+        outcome.add();
     }
 }
 

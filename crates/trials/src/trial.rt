@@ -33,7 +33,9 @@ impl<P: Sample> Solved<P> {
         }
     }
 
-    fn check(&self, case: &Case<P>, right: Result<P, Told>, failed: &mut Disagreements) {
+    fn check(&self, case: &Case<P>, right: Result<P, Told>, tally: &mut Tally) {
+        tally.count(&self.answer);
+        let failed = &mut tally.disagreements;
         match (self.answer, right) {
             (Ok(price), Ok(lowest)) => {
                 failed.price.expect(price == lowest);
@@ -53,10 +55,8 @@ impl<P: Sample> Solved<P> {
 fn try_short<P: Sample, S: Solver<P>>(solver: &mut S, case: &Case<P>, tally: &mut Tally) {
     let mut memory = case.prices;
     let solved = Solved::new(solver, case, &mut memory[..NEED - 1]);
-    tally.count(&solved.answer);
-    let failed = &mut tally.disagreements;
-    solved.check(case, Err(SHORT), failed);
-    failed.prices.expect(memory == case.prices);
+    solved.check(case, Err(SHORT), tally);
+    tally.disagreements.prices.expect(memory == case.prices);
 }
 
 // With just the need the graph's own prices stand; what lies past them is the solver's.
@@ -68,11 +68,9 @@ fn try_enough<P: Sample, S: Solver<P>>(
 ) {
     let mut memory = case.prices;
     let solved = Solved::new(solver, case, &mut memory);
-    tally.count(&solved.answer);
-    let failed = &mut tally.disagreements;
-    solved.check(case, right, failed);
+    solved.check(case, right, tally);
     let stand = memory[..GRAPH_PRICES] == case.prices[..GRAPH_PRICES];
-    failed.prices.expect(stand);
+    tally.disagreements.prices.expect(stand);
 }
 
 pub(crate) fn try_solver<P: Sample, S: Solver<P>>(

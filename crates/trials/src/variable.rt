@@ -5,7 +5,7 @@ ghost use Rattle.std.specs.Iterator.{at_most};
 use crate::chance::Chance;
 use std::marker::Model;
 
-#[derive(Clone, Copy)]
+#[derive(Clone, Copy, PartialEq, Eq)]
 pub(crate) struct Variable {
     number: u8,
 }
@@ -41,6 +41,10 @@ impl Variable {
     // A set of variables is a mask with the bits of its members.
     pub(crate) fn bit(self) -> u16 {
         1 << self.number
+    }
+
+    pub(crate) fn is_in(self, mask: u16) -> bool {
+        mask & self.bit() != 0
     }
 
     pub(crate) fn distance(self, other: Variable) -> u32 {
