@@ -7,13 +7,11 @@ use crate::variable::Variable;
 const WIDEST: usize = 3;
 
 impl<P: Sample> Case<P> {
-    fn row_has_price(&self, u: Variable, v: Variable, i: u8) -> bool {
-        (0..self.shape.choices(v)).any(|j| self.pair_price(u, v, i, j) != P::zero())
-    }
-
     // Whether some choice of u with some choice of v has a price; an absent variable has no choices.
     pub(crate) fn is_edge(&self, u: Variable, v: Variable) -> bool {
-        (0..self.shape.choices(u)).any(|i| self.row_has_price(u, v, i))
+        (0..self.shape.choices(u)).any(|i| {
+            (0..self.shape.choices(v)).any(|j| self.pair_price(u, v, i, j) != P::zero())
+        })
     }
 
     // Whether u has an edge to a variable above k.

@@ -48,28 +48,40 @@ fn draw_present(chance: &mut Chance) -> u16 {
     present
 }
 
-// Mostly from `least` to `most`; now and then any byte.
-fn draw_count(chance: &mut Chance, least: u32, most: u32) -> u8
-    requires { (least ≤ most) × (most ≤ 6) }
-{
-    if chance.below(16) == 0 {
-        chance.byte()
-    } else {
-        (least + chance.below(most - least + 1)) as u8
+// Which counts are drawn, but for a few.
+#[derive(Clone, Copy)]
+struct CountRange {
+    least: u32,
+    most: u32,
+    ghost ordered: { least ≤ most },
+    ghost few: { most ≤ 6 },
+}
+
+impl CountRange {
+    // A count of 0 is one below what a graph has, and one of 6 is one above it.
+    fn draw(chance: &mut Chance, family: Family) -> CountRange {
+        match family {
+            Family::Any => CountRange {
+                least: 0,
+                most: 1 + chance.below(6),
+            },
+            Family::Widest => CountRange { least: 5, most: 6 },
+        }
+    }
+
+    // Now and then any byte.
+    fn draw_count(&self, chance: &mut Chance) -> u8 {
+        if chance.below(16) == 0 {
+            chance.byte()
+        } else {
+            (self.least + chance.below(self.most - self.least + 1)) as u8
+        }
     }
 }
 
-// A count of 0 is one below the range, and one of 6 is one above it.
 fn draw_counts(chance: &mut Chance, family: Family) -> [u8; 12] {
-    let (least, most) = match family {
-        Family::Any => (0, chance.below(6) + 1),
-        Family::Widest => (5, 6),
-    };
-    array::from_fn(
-        |_|
-            requires { (least ≤ most) × (most ≤ 6) }
-        { draw_count(chance, least, most) },
-    )
+    let range = CountRange::draw(chance, family);
+    array::from_fn(|_| range.draw_count(chance))
 }
 
 impl Shape {

@@ -27,13 +27,16 @@ impl Variable {
         }
     }
 
-    pub(crate) fn number(self) -> u8 {
+    pub(crate) fn number(self) -> u8
+        ensures { result ≡ self }
+    {
         self.number
     }
 
     // Where it stands in a list of twelve.
     pub(crate) fn index(self) -> usize
-        ensures { result < 12 }
+        ensures value { result ≡ self }
+        ensures within { result < 12 }
     {
         usize::from(self.number)
     }
@@ -51,7 +54,6 @@ impl Variable {
         u32::from(self.number.abs_diff(other.number))
     }
 
-    // Each list goes from the lowest to the highest.
     pub(crate) fn all() -> Variables {
         Variables { next: 0, end: 12 }
     }
@@ -63,6 +65,7 @@ impl Variable {
         }
     }
 
+    // Those below it and itself.
     pub(crate) fn up_to(self) -> Variables {
         Variables {
             next: 0,
@@ -70,6 +73,7 @@ impl Variable {
         }
     }
 
+    // Itself and those above it.
     pub(crate) fn onward(self) -> Variables {
         Variables {
             next: self.number,
@@ -85,6 +89,7 @@ impl Variable {
     }
 }
 
+// The variables from `next` on that are below `end`, the lowest first.
 #[derive(Drop)]
 pub(crate) struct Variables {
     next: u8,
