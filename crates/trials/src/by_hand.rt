@@ -7,7 +7,7 @@ use crate::variable::Variable;
 use refusals::Told;
 use std::iter;
 
-// No graph has more: five choices for each of twelve variables.
+// Where the search ends at the latest: five choices for each of twelve variables.
 const ALL_ASSIGNMENTS: usize = 244_140_625;
 
 // The assignment after this one, as an odometer turns; none where it is back at the first.

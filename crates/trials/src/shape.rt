@@ -29,6 +29,7 @@ impl Family {
 // Without variables, to begin with.
 #[derive(Clone, Copy, Default)]
 pub(crate) struct Shape {
+    // A mask, as `Graph::new` takes it, so that bits of no variable are tried too.
     present: u16,
     counts: [u8; 12],
 }

@@ -2,6 +2,7 @@
 use graphs::{Cause, Fault};
 use std::fmt;
 
+// Stays at the highest number once it is there, so that whoever counts owes no bound.
 #[derive(Clone, Copy, Default)]
 pub(crate) struct Counter {
     count: u32,
@@ -55,21 +56,11 @@ impl Tally {
     pub(crate) fn count<P>(&mut self, answer: &Result<P, Fault>) {
         let outcome = match answer {
             Ok(_) => &mut self.answered,
-            Err(
-                Fault {
-                    cause: Cause::Short,
-                },
-            ) => &mut self.short,
-            Err(
-                Fault {
-                    cause: Cause::TurnedAway { .. },
-                },
-            ) => &mut self.turned_away,
-            Err(
-                Fault {
-                    cause: Cause::NothingFits,
-                },
-            ) => &mut self.nothing_fits,
+            Err(fault) => match fault.cause {
+                Cause::Short => &mut self.short,
+                Cause::TurnedAway { .. } => &mut self.turned_away,
+                Cause::NothingFits => &mut self.nothing_fits,
+            },
         };
         outcome.add();
     }
