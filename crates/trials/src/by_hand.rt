@@ -3,7 +3,7 @@ use crate::case::Case;
 use crate::refusal::NOTHING_FITS;
 use crate::sample::Sample;
 use crate::shape::Shape;
-use crate::variable::Variable;
+use crate::variable::{Variable, Variables};
 use refusals::Told;
 use std::iter;
 
@@ -25,31 +25,36 @@ fn next_assignment(shape: &Shape, picks: &[u8; 12]) -> Option<[u8; 12]> {
 }
 
 impl<P: Sample> Case<P> {
-    // The price of v's pick with those of the present variables below it.
-    fn total_below(&self, v: Variable, picks: &[u8; 12]) -> P {
-        v.below()
-            .filter(|u| self.shape.has(*u))
-            .map(|u| self.pair_price(u, v, picks[u.index()], picks[v.index()]))
+    // The prices of those of the variables that are present, together.
+    fn sum<F: Fn(Variable) -> P>(&self, variables: Variables, price_of: F) -> P
+        requires { (state : F) (v : _) → F.pre state v }
+    {
+        variables
+            .filter(|v| self.shape.has(*v))
+            .map(price_of)
             .fold(P::zero(), P::add)
     }
 
+    // The price of v's pick with those of the present variables below it.
+    fn total_below(&self, v: Variable, picks: &[u8; 12]) -> P {
+        self.sum(v.below(), |u| {
+            self.pair_price(u, v, picks[u.index()], picks[v.index()])
+        })
+    }
+
     pub(crate) fn total(&self, picks: &[u8; 12]) -> P {
-        Variable::all()
-            .filter(|v| self.shape.has(*v))
-            .map(|v| {
-                self.choice_price(v, picks[v.index()])
-                    .add(self.total_below(v, picks))
-            })
-            .fold(P::zero(), P::add)
+        self.sum(Variable::all(), |v| {
+            self.choice_price(v, picks[v.index()])
+                .add(self.total_below(v, picks))
+        })
     }
 
     fn lowest(&self) -> P {
         iter::successors(Some([0; 12]), |picks| next_assignment(&self.shape, picks))
             .take(ALL_ASSIGNMENTS)
             .map(|picks| self.total(&picks))
-            .fold(P::top(), |lowest, price| {
-                if price.at_most(lowest) { price } else { lowest }
-            })
+            .min()
+            .unwrap_or(P::top())
     }
 
     // What is right where the graph is taken and the memory suffices.

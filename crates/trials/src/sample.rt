@@ -32,7 +32,7 @@ impl Size {
     }
 }
 
-pub(crate) trait Sample: Price + Eq {
+pub(crate) trait Sample: Price + Ord {
     // A price of this size, chosen among those by the bits.
     fn sample(size: Size, bits: u32) -> Self;
 }
