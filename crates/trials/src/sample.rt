@@ -32,6 +32,7 @@ impl Size {
     }
 }
 
+// `Ord` and its `==` compare answers, and find the lowest, apart from what `Price` says of the order.
 pub(crate) trait Sample: Price + Ord {
     // A price of this size, chosen among those by the bits.
     fn sample(size: Size, bits: u32) -> Self;
