@@ -1,10 +1,10 @@
 // A random graph with its prices, and random bytes for the picks.
-ghost use Rattle.std.specs.Prelude.{◌<◌};
-
 use crate::chance::Chance;
 use crate::sample::{Sample, Size};
 use crate::shape::{Family, Shape};
+use crate::variable::Variable;
 use graphs::{matrix_place, vector_place};
+use std::array;
 
 // What every solver needs: the prices of a graph and 300 more.
 pub(crate) const NEED: usize = 2010;
@@ -22,7 +22,7 @@ struct Web {
     // How many of 8 matrices are kept.
     density: u32,
     // How far apart the two variables may be.
-    reach: usize,
+    reach: u32,
 }
 
 impl Web {
@@ -30,7 +30,7 @@ impl Web {
         match family {
             Family::Any => Web {
                 density: chance.below(9),
-                reach: 1 + chance.below(11) as usize,
+                reach: 1 + chance.below(11),
             },
             // After a variable at most three up to it then have an edge to one above it.
             Family::Widest => Web {
@@ -40,17 +40,13 @@ impl Web {
         }
     }
 
-    fn keeps(&self, chance: &mut Chance, distance: usize) -> bool {
+    fn keeps(&self, chance: &mut Chance, distance: u32) -> bool {
         chance.below(8) < self.density && distance <= self.reach
     }
 }
 
 fn draw_picks(chance: &mut Chance) -> [u8; 12] {
-    let mut picks = [0; 12];
-    for pick in picks.iter_mut() {
-        *pick = chance.byte();
-    }
-    picks
+    array::from_fn(|_| chance.byte())
 }
 
 // How many of 32 prices are near top or top.
@@ -65,19 +61,15 @@ fn draw_steepness(chance: &mut Chance) -> u32 {
 
 fn draw_prices<P: Sample>(chance: &mut Chance) -> [P; NEED] {
     let steep = draw_steepness(chance);
-    let mut prices = [P::zero(); NEED];
-    for price in prices.iter_mut() {
-        let size = Size::draw(chance, steep);
-        *price = P::sample(size, chance.bits());
-    }
-    prices
+    array::from_fn(|_| P::sample(Size::draw(chance, steep), chance.bits()))
 }
 
 impl<P: Sample> Case<P> {
     // No variables and no prices, to be drawn.
+    // Made in `main` alone: in a function for any kind it did not prove that so many prices fit the address space.
     pub(crate) fn new() -> Case<P> {
         Case {
-            shape: Shape::new(),
+            shape: Shape::default(),
             prices: [P::zero(); NEED],
             picks: [0; 12],
         }
@@ -90,71 +82,67 @@ impl<P: Sample> Case<P> {
         self.prices = draw_prices(chance);
         self.picks = draw_picks(chance);
         let web = Web::draw(chance, family);
-        for v in 0..12 {
+        for v in Variable::all() {
             self.thin(chance, &web, v);
-            if let Family::Widest = family {
+            if family == Family::Widest {
                 self.favour_last(v);
             }
         }
     }
 
     // Takes the price of v's last choice away, so that the last places of the tables matter too.
-    fn favour_last(&mut self, v: usize)
-        requires { v < 12 }
-    {
-        let last = self.shape.choices(v).saturating_sub(1) as usize;
-        self.clear_place(vector_place(v, last));
+    fn favour_last(&mut self, v: Variable) {
+        let last = self.shape.choices(v).saturating_sub(1);
+        self.clear_place(vector_place(v.index(), usize::from(last)));
     }
 
     // Takes the prices away between v and the variables below it that the web does not keep.
-    fn thin(&mut self, chance: &mut Chance, web: &Web, v: usize)
-        requires { v < 12 }
-    {
-        for u in 0..v {
-            if !web.keeps(chance, v - u) {
+    fn thin(&mut self, chance: &mut Chance, web: &Web, v: Variable) {
+        for u in v.below() {
+            if !web.keeps(chance, v.distance(u)) {
                 self.clear(u, v);
             }
         }
     }
 
     // Only what the graph has is cleared: beyond the counts nothing may count as an edge.
-    fn clear(&mut self, u: usize, v: usize)
-        requires { (u < 12) × (v < 12) }
-    {
-        for i in 0..self.shape.choices(u) as usize {
+    fn clear(&mut self, u: Variable, v: Variable) {
+        for i in 0..self.shape.choices(u) {
             self.clear_row(u, v, i);
         }
     }
 
-    fn clear_row(&mut self, u: usize, v: usize, i: usize)
-        requires { v < 12 }
-    {
-        for j in 0..self.shape.choices(v) as usize {
-            self.clear_place(matrix_place(u, v, i, j));
+    fn clear_row(&mut self, u: Variable, v: Variable, i: u8) {
+        for j in 0..self.shape.choices(v) {
+            self.clear_place(pair_place(u, v, i, j));
         }
     }
 
     fn clear_place(&mut self, place: Option<usize>) {
         if let Some(at) = place
-            && at < NEED
+            && let Some(price) = self.prices.get_mut(at)
         {
-            self.prices[at] = P::zero();
+            *price = P::zero();
         }
     }
 
     // A place that is not there has the price of top, so that it shows.
     fn price(&self, place: Option<usize>) -> P {
-        match place {
-            Some(at) if at < NEED => self.prices[at],
-            _ => P::top(),
-        }
+        place
+            .and_then(|at| self.prices.get(at))
+            .copied()
+            .unwrap_or(P::top())
     }
 
-    pub(crate) fn choice_price(&self, v: usize, i: u8) -> P {
-        self.price(vector_place(v, i as usize))
+    pub(crate) fn choice_price(&self, v: Variable, i: u8) -> P {
+        self.price(vector_place(v.index(), usize::from(i)))
     }
 
-    pub(crate) fn pair_price(&self, u: usize, v: usize, i: u8, j: u8) -> P {
-        self.price(matrix_place(u, v, i as usize, j as usize))
+    pub(crate) fn pair_price(&self, u: Variable, v: Variable, i: u8, j: u8) -> P {
+        self.price(pair_place(u, v, i, j))
     }
+}
+
+fn pair_place(u: Variable, v: Variable, i: u8, j: u8) -> Option<usize> {
+    matrix_place(u.index(), v.index(), usize::from(i), usize::from(j))
 }

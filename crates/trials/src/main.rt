@@ -6,11 +6,13 @@ mod by_hand;
 mod case;
 mod chance;
 mod frontier;
+mod refusal;
 mod run;
 mod sample;
 mod shape;
 mod tally;
 mod trial;
+mod variable;
 
 use case::Case;
 use prices::{Plain, Ranked};
@@ -23,8 +25,6 @@ const PLAIN_SEED: u64 = 0x9e37_79b9_7f4a_7c15;
 const RANKED_SEED: u64 = 0xd1b5_4a32_d192_ed03;
 
 fn main(rt: HostRuntime) -> io::Result<()> {
-    let mut plain: Case<Plain> = Case::new();
-    run(&rt, "plain", PLAIN_SEED, &mut plain)?;
-    let mut ranked: Case<Ranked> = Case::new();
-    run(&rt, "ranked", RANKED_SEED, &mut ranked)
+    run(&rt, "plain", PLAIN_SEED, &mut Case::<Plain>::new())?;
+    run(&rt, "ranked", RANKED_SEED, &mut Case::<Ranked>::new())
 }

@@ -1,19 +1,18 @@
 // The graphs of one price kind, and what is printed of them.
 use crate::asked::Asked;
-use crate::by_hand::lowest;
 use crate::case::Case;
 use crate::chance::Chance;
-use crate::frontier::too_wide_after;
+use crate::refusal::turned_away;
 use crate::sample::Sample;
 use crate::tally::Tally;
-use crate::trial::{Expected, try_solver};
+use crate::trial::try_solver;
 use graphs::{BranchAndBound, Elimination};
 use std::io;
 
 const GRAPHS: u32 = 2000;
 
 // What came of each solver, and of asking the graph itself.
-#[derive(Clone, Copy)]
+#[derive(Clone, Copy, Default)]
 struct Tallies {
     branch_and_bound: Tally,
     elimination: Tally,
@@ -22,9 +21,12 @@ struct Tallies {
 
 // Branch and bound takes every graph; elimination takes those with narrow frontiers.
 fn try_graph<P: Sample>(case: &Case<P>, tallies: &mut Tallies) {
-    let lowest = lowest(case);
-    let always = Expected::new(lowest, None);
-    let narrow = Expected::new(lowest, too_wide_after(case));
+    let always = case.answer();
+    // A graph that is turned away is not looked at further.
+    let narrow = match case.too_wide_after() {
+        Some(variable) => Err(turned_away(variable)),
+        None => always,
+    };
     try_solver(
         &mut BranchAndBound,
         case,
@@ -36,15 +38,15 @@ fn try_graph<P: Sample>(case: &Case<P>, tallies: &mut Tallies) {
 }
 
 fn print_tally(rt: &impl Print, solver: &str, tally: &Tally) -> io::Result<()> {
-    let disagreements = tally.disagreements;
     println!(rt; "  {solver}: {tally}")?;
-    println!(rt; "    disagreements: {disagreements}")
+    println!(rt; "    disagreements: {}", tally.disagreements)
 }
 
 fn print_asked(rt: &impl Print, asked: &Asked) -> io::Result<()> {
-    let edges = asked.edges;
-    let totals = asked.totals;
-    println!(rt; "  asked of the graphs: disagreements: edges {edges}, totals {totals}")
+    println!(rt;
+        "  asked of the graphs: disagreements: edges {}, totals {}",
+        asked.edges, asked.totals
+    )
 }
 
 // Draws the case anew for each graph.
@@ -55,11 +57,7 @@ pub(crate) fn run<P: Sample>(
     case: &mut Case<P>,
 ) -> io::Result<()> {
     let mut chance = Chance::new(seed);
-    let mut tallies = Tallies {
-        branch_and_bound: Tally::new(),
-        elimination: Tally::new(),
-        asked: Asked::new(),
-    };
+    let mut tallies = Tallies::default();
     for _ in 0..GRAPHS {
         case.redraw(&mut chance);
         try_graph(case, &mut tallies);

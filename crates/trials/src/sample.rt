@@ -32,7 +32,8 @@ impl Size {
     }
 }
 
-pub(crate) trait Sample: Price {
+// `Ord` and its `==` compare answers, and find the lowest, apart from what `Price` says of the order.
+pub(crate) trait Sample: Price + Ord {
     // A price of this size, chosen among those by the bits.
     fn sample(size: Size, bits: u32) -> Self;
 }

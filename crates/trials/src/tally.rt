@@ -2,16 +2,13 @@
 use graphs::{Cause, Fault};
 use std::fmt;
 
-#[derive(Clone, Copy)]
+// Stays at the highest number once it is there, so that whoever counts owes no bound.
+#[derive(Clone, Copy, Default)]
 pub(crate) struct Counter {
     count: u32,
 }
 
 impl Counter {
-    pub(crate) fn new() -> Counter {
-        Counter { count: 0 }
-    }
-
     pub(crate) fn add(&mut self) {
         self.count = self.count.saturating_add(1);
     }
@@ -26,12 +23,11 @@ impl Counter {
 
 impl fmt::Display for Counter {
     fn fmt<W: fmt::Write>(&self, f: &mut fmt::Formatter<W>) -> fmt::Result {
-        let count = self.count;
-        write!(f, "{count}")
+        write!(f, "{}", self.count)
     }
 }
 
-#[derive(Clone, Copy)]
+#[derive(Clone, Copy, Default)]
 pub(crate) struct Disagreements {
     // An answer where a refusal was due, a refusal where an answer was, or another refusal.
     pub(crate) outcome: Counter,
@@ -47,7 +43,7 @@ pub(crate) struct Disagreements {
     pub(crate) prices: Counter,
 }
 
-#[derive(Clone, Copy)]
+#[derive(Clone, Copy, Default)]
 pub(crate) struct Tally {
     answered: Counter,
     nothing_fits: Counter,
@@ -57,56 +53,44 @@ pub(crate) struct Tally {
 }
 
 impl Tally {
-    pub(crate) fn new() -> Tally {
-        let none = Counter::new();
-        Tally {
-            answered: none,
-            nothing_fits: none,
-            turned_away: none,
-            short: none,
-            disagreements: Disagreements {
-                outcome: none,
-                price: none,
-                choice: none,
-                total: none,
-                picks: none,
-                prices: none,
-            },
-        }
-    }
-
-    pub(crate) fn count<P: Copy>(&mut self, answer: &Result<P, Fault>) {
-        match *answer {
-            Ok(_) => self.answered.add(),
+    pub(crate) fn count<P>(&mut self, answer: &Result<P, Fault>) {
+        let outcome = match answer {
+            Ok(_) => &mut self.answered,
             Err(fault) => match fault.cause {
-                Cause::Short => self.short.add(),
-                Cause::TurnedAway { .. } => self.turned_away.add(),
-                Cause::NothingFits => self.nothing_fits.add(),
+                Cause::Short => &mut self.short,
+                Cause::TurnedAway { .. } => &mut self.turned_away,
+                Cause::NothingFits => &mut self.nothing_fits,
             },
-        }
+        };
+        outcome.add();
     }
 }
 
 impl fmt::Display for Disagreements {
     fn fmt<W: fmt::Write>(&self, f: &mut fmt::Formatter<W>) -> fmt::Result {
-        let outcome = self.outcome;
-        let price = self.price;
-        let choice = self.choice;
+        let Disagreements {
+            outcome,
+            price,
+            choice,
+            total,
+            picks,
+            prices,
+        } = *self;
         write!(f, "outcome {outcome}, price {price}, choice {choice}, ")?;
-        let total = self.total;
-        let picks = self.picks;
-        let prices = self.prices;
         write!(f, "total {total}, picks {picks}, prices {prices}")
     }
 }
 
 impl fmt::Display for Tally {
     fn fmt<W: fmt::Write>(&self, f: &mut fmt::Formatter<W>) -> fmt::Result {
-        let answered = self.answered;
-        let nothing_fits = self.nothing_fits;
+        let Tally {
+            answered,
+            nothing_fits,
+            turned_away,
+            short,
+            ..
+        } = *self;
         write!(f, "{answered} answered, {nothing_fits} nothing fits, ")?;
-        let turned_away = self.turned_away;
-        let short = self.short;
         write!(f, "{turned_away} turned away, {short} short")
     }
 }
