@@ -1,6 +1,5 @@
 // What a refused solver has to tell, by this program's own figures: the solvers' are what is tried.
 use crate::variable::Variable;
-use graphs::Fault;
 use refusals::Told;
 
 pub(crate) const SHORT: Told = Told {
@@ -20,14 +19,5 @@ pub(crate) fn turned_away(variable: Variable) -> Told {
         number: 11,
         place: variable.number(),
         depth: 0,
-    }
-}
-
-// What a fault tells.
-pub(crate) fn told(fault: Fault) -> Told {
-    Told {
-        number: fault.number(),
-        place: fault.place(),
-        depth: fault.depth(),
     }
 }

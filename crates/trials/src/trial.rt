@@ -1,6 +1,6 @@
 // One graph through one solver: what it has to answer, and what it has to leave.
 use crate::case::{Case, NEED};
-use crate::refusal::{SHORT, told};
+use crate::refusal::SHORT;
 use crate::sample::Sample;
 use crate::tally::{Disagreements, Tally};
 use crate::variable::Variable;
@@ -43,7 +43,7 @@ impl<P: Sample> Solved<P> {
                 self.check_picks(case, failed);
             }
             (Err(fault), Err(refusal)) => {
-                failed.outcome.expect(told(fault) == refusal);
+                failed.outcome.expect(fault.told() == refusal);
                 failed.picks.expect(self.picks == case.picks);
             }
             (Ok(_), Err(_)) | (Err(_), Ok(_)) => failed.outcome.add(),

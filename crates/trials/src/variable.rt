@@ -1,4 +1,4 @@
-// The twelve variables that a graph may have, one by one or in order.
+// The twelve variables that a graph may have, one by one or in order; the library's own stay apart, since it is tried.
 ghost use Rattle.std.specs.Prelude.{◌≡◌, ℕ, ◌-◌, ◌<◌, ◌≤◌};
 ghost use Rattle.std.specs.Iterator.{at_most};
 
