@@ -31,6 +31,7 @@ pub trait Price: Copy {
     fn add(self, other: Self) -> Self
         ensures { result ≡ sum self other };
 
+    // Not by `Ord` as a supertrait, which would ask more of whoever writes a price kind.
     fn at_most(self, other: Self) -> bool
         ensures { result ≡ at_most self other };
 

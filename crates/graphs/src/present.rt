@@ -1,4 +1,4 @@
-// A graph's variables and counts.
+// Which variables a graph has, and which choices each of them has.
 ghost use Rattle.std.specs.Prelude.{◌≡◌, ◌<◌, ◌≤◌};
 ghost use Rattle.graphs.specs.Masks.{has};
 ghost use Rattle.graphs.specs.Stored.{count_at};
