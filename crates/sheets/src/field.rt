@@ -6,7 +6,7 @@ use crate::fault::Cause;
 use crate::line::Width;
 
 // Which width a line asks of a variable.
-#[derive(Clone, Copy, Debug, PartialEq, Eq)]
+#[derive(Clone, Copy)]
 pub enum Wanted {
     Exactly(Width),
     Any,
@@ -15,7 +15,7 @@ pub enum Wanted {
 }
 
 // What one byte of a record's body stands for.
-#[derive(Clone, Copy, Debug, PartialEq, Eq)]
+#[derive(Clone, Copy)]
 pub enum Field {
     // A variable that the record declares.
     Declares,

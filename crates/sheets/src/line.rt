@@ -8,7 +8,7 @@ pub enum Width {
 }
 
 // What a declaring record says.
-#[derive(Clone, Copy, Debug, PartialEq, Eq)]
+#[derive(Clone, Copy)]
 pub struct Declaration {
     pub variable: u8,
     pub width: Width,

@@ -46,8 +46,8 @@ impl<'a> Record<'a> {
         ensures { (by : Test) → (TestsBy (F.post test) by self.now.widths.now (slice_index self.now.bytes.now 1))
             → result ≡ unless (first_fault by self.now.widths.now 1 fields.now self.now.bytes.now) (Ok tt) }
     {
-        for (i, field) in fields.iter().enumerate() {
-            if let Some(cause) = test(*field, self.bytes[i + 1]) {
+        for (i, (field, byte)) in fields.iter().zip(&self.bytes[1..]).enumerate() {
+            if let Some(cause) = test(*field, *byte) {
                 return Err(cause.at(i as u8 + 1));
             }
         }

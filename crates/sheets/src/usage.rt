@@ -65,6 +65,7 @@ impl Line {
     }
 }
 
+// How many of these names are the variable's.
 fn times_in(names: &[Option<u8>], variable: u8) -> usize
     ensures value { result ≡ count_by (λ name. option_eq nat_eq (Some variable) name) names.now }
     ensures low { result ≤ length names.now }
@@ -112,9 +113,8 @@ impl Sheet {
     pub fn price_in_memory<P: Price>(&self) -> P
         ensures { result ≡ price P.Price self.now.lines everything_in_memory }
     {
-        let lines = self.lines();
         let mut total = P::zero();
-        for line in lines {
+        for line in self.lines() {
             total = total.add(line_in_memory(*line));
         }
         total
