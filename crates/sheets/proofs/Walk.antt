@@ -26,8 +26,8 @@ module _ (t : Test) (ws : List (Option Width)) (xs : List Field) (bs : List ℕ)
   pub fault_more : r ≡ None → first_fault t ws (i + 1) (drop i xs) bs ≡ first_fault t ws (i + 1 + 1) (drop (i + 1) xs) bs
   fault_more n = rw (drop_more xs i x, ← f, ← g) (passed _ _ _ _ r e n)
 
-  pub fault_here : (c : Cause) → r ≡ Some c → first_fault t ws (i + 1) (drop i xs) bs ≡ Some (fault c (i + 1))
-  fault_here c n = rw (drop_more xs i x, ← f, ← g) (refused _ _ _ _ r c e n)
+  pub fault_here : (c : Cause) (j : ℕ) → j ≡ i → r ≡ Some c → first_fault t ws (i + 1) (drop i xs) bs ≡ Some (fault c (j + 1))
+  fault_here c j s n = rw (drop_more xs i x, ← f, ← g, s) (refused _ _ _ _ r c e n)
 
 -- the fields with the bytes after the kind byte, as `fields.iter().zip(&bytes[1..]).enumerate()` gives them
 module _ (xs : List Field) (bs : List ℕ) (fits : length bs ≡ length xs + 1) where

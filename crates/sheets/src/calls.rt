@@ -1,6 +1,6 @@
 // The calls on a sheet.
 ghost use Rattle.std.specs.Prelude.{◌≡◌, ◌≤◌, length};
-ghost use Rattle.sheets.specs.declared.sheet.TheConstants.{MAX_LINES};
+ghost use Rattle.sheets.specs.declared.sheet.TheConstants.{MAX_LINES, VARIABLES};
 ghost use Rattle.sheets.specs.Records.{width_of, declaration_of, line_of};
 ghost use Rattle.sheets.specs.Rules.{ByTheRule};
 ghost use Rattle.sheets.specs.Table.{declaration_rows, line_rows};
@@ -76,7 +76,8 @@ impl Sheet {
 
     // The declared width of a variable.
     pub fn width(&self, variable: u8) -> Option<Width>
-        ensures { result ≡ width_of self.now.widths variable }
+        ensures value { result ≡ width_of self.now.widths variable }
+        ensures twelve { length self.now.widths ≡ VARIABLES }
     {
         width_of(&self.widths, variable)
     }

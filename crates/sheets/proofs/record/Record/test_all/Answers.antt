@@ -1,5 +1,4 @@
-use Rattle.std.proofs.Common.{ℕ, ◌+◌, Err, rules, length, ap, ◌∙◌}
-use Rattle.sheets.specs.Records.{fault}
+use Rattle.std.proofs.Common.{rules, length, refl}
 use Rattle.std.proofs.lemmas.Iterator.{YieldsList-from_slice, YieldsList-from_zip}
 use Rattle.std.proofs.lemmas.Iterator.Consumers.{YieldsList-from_enumerate, YieldsList-turn}
 use Rattle.std.proofs.lemmas.List.{length_push}
@@ -16,8 +15,8 @@ returns-in-Some-test g c =
     let p = pair_at xs bs c.requires.fits (length c.loop-i.yielded) _ t.0 t.1 in
     λ by k.
     let r = k c.in-Some.field.now c.in-Some.byte.now c.test.result (search rules) c.test.ensures in
-    let f = fault_here by c.args.self.now.widths.now xs bs (length c.loop-i.yielded) c.in-Some.field.now c.in-Some.byte.now p.0 p.2 p.3 _ r _ c.in-Some-test.is in
-    rw (c.loop-i.invariant.walked by k, f) (ap Err (c.at.ensures ∙ ap (λ (j : ℕ). fault c.in-Some-test.cause (j + 1)) p.1))
+    let f = fault_here by c.args.self.now.widths.now xs bs (length c.loop-i.yielded) c.in-Some.field.now c.in-Some.byte.now p.0 p.2 p.3 _ r _ _ p.1 c.in-Some-test.is in
+    rw (c.loop-i.invariant.walked by k, f) (rw c.at.ensures refl)
 
 pub loop-i-preserved : goal.loop-i-preserved
 loop-i-preserved g c = record {
@@ -32,5 +31,5 @@ loop-i-preserved g c = record {
       λ by k.
       let r = k c.in-Some.field.now c.in-Some.byte.now c.test.result (search rules) c.test.ensures in
       let n = length_push c.loop-i.yielded (c.in-Some.i, (c.in-Some.field, c.in-Some.byte)) in
-      rw n (c.loop-i.invariant.walked by k ∙ fault_more by _ _ _ _ _ _ p.0 p.2 p.3 _ r c.in_default.is);
+      rw (n, c.loop-i.invariant.walked by k) (fault_more by _ _ _ _ _ _ p.0 p.2 p.3 _ r c.in_default.is);
 }
