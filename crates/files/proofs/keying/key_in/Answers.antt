@@ -1,12 +1,12 @@
-use Rattle.std.proofs.Common.{Err, sym, ap, ◌∙◌, rules}
+use Rattle.std.proofs.Common.{Err, sym, ap, ◌∙◌}
 use Rattle.std.proofs.lemmas.Result.{err_from_is_err_and}
 use Rattle.files.specs.Keyed.{Keyed, answer_of}
 use Rattle.files.proofs.Handed.{keyed_end, keyed_more, keyed_stop, keyed_short}
 use Rattle.files.proofs.Ruling.{keyed_by_rule}
 use Rattle.files.proofs.keying.key_in.Goals as goal
 
-pub returns-in_err-fit : goal.returns-in_err-fit
-returns-in_err-fit c = record { answer = search rules; sheet = search rules; rule = keyed_by_rule _ _ }
+pub returns-in_err-fit-clause-rule : goal.returns-in_err-fit-clause-rule
+returns-in_err-fit-clause-rule c = keyed_by_rule _ _
 
 pub loop-part-preserved : goal.loop-part-preserved
 loop-part-preserved c =
