@@ -1,6 +1,7 @@
 -- Laws of a file's cut.
-use Rattle.std.proofs.Common.{◌≡◌, ℕ, zero, suc, ◌+◌, ◌-◌, ◌<◌, ◌≤◌, List, [], ◌∷◌, length, get_or, take, drop, Some, None, Option, sym, refl, ap, ◌∙◌, subst, add-zero, arith, length-drop}
-use Rattle.std.proofs.lemmas.List.{drop_all, drop-drop, take_all, get_or-drop}
+use Rattle.std.proofs.Common.{◌≡◌, ℕ, zero, suc, ◌+◌, ◌-◌, ◌<◌, ◌≤◌, List, [], ◌∷◌, length, min, get_or, take, drop, Some, None, Option, slice_get, sym, refl, ap, ◌∙◌, ⊎_elim, arith, length-drop}
+use Rattle.std.proofs.lemmas.Bool.{cases_lt}
+use Rattle.std.proofs.lemmas.List.{drop_all, drop-drop, take_all}
 use Rattle.sheets.specs.Table.{Row, size_or, row_of, line_rows, declaration_rows}
 use Rattle.files.specs.Cut.{or_one, size_of, piece, Piece, cut_from}
 
@@ -43,35 +44,50 @@ cut_step (suc n) i (k ∷ bs) p q =
     ap (λ (ps : List Piece). piece i (take (size_of k) (k ∷ bs)) ∷ ps)
     (cut_enough n (length (k ∷ bs) - size_of k) (i + size_of k) (drop (size_of k) (k ∷ bs)) (omega arith) (omega arith))
 
-cut_at : (n i s : ℕ) (bs : List ℕ) → 0 < length bs → length bs ≤ n → s ≡ size_of (get_or bs 0 0)
-    → cut_from n i bs ≡ piece i (take s bs) ∷ cut_from (length bs - s) (i + s) (drop s bs)
-cut_at n i s bs p q e =
-    let P : ℕ → Type 0 = λ t. cut_from n i bs ≡ piece i (take t bs) ∷ cut_from (length bs - t) (i + t) (drop t bs) in
-    subst P (sym e) (cut_step n i bs p q)
+-- # What is left at an offset
 
-module _ (f : List ℕ) (o e s : ℕ) (h : o < length f) (k : s ≡ size_of (get_or f o 0)) where
-  first : s ≡ size_of (get_or (drop o f) 0 0)
-  first = let g : get_or (drop o f) 0 0 ≡ get_or f o 0 = rw (get_or-drop o f 0 0, add-zero) in k ∙ ap size_of (sym g)
+module _ (f : List ℕ) (o : ℕ) where
+  -- the bytes from there on, as `&f[o..]` gives them
+  abbrev rest : List ℕ
+  rest = take (length f - o) (drop o f)
 
-  pub cut_whole : s ≤ length f - o → e ≡ o + s
-      → cut_from (length f - o) o (drop o f) ≡ piece o (take (e - o) (drop o f)) ∷ cut_from (length f - e) e (drop e f)
-  cut_whole w x =
+  rest_is : rest ≡ drop o f
+  rest_is = let l = length-drop o f in take_all (length f - o) (drop o f) (omega arith)
+
+  none_left : (bs : List ℕ) → bs ≡ drop o f → slice_get bs 0 ≡ None → cut_from (length f - o) o (drop o f) ≡ []
+  none_left [] r h = rw (sym r) (cut_none _ _)
+  none_left (b ∷ bs) r h = cc
+
+  pub at_end : slice_get rest 0 ≡ None → cut_from (length f - o) o (drop o f) ≡ []
+  at_end = none_left rest rest_is
+
+  -- a record has as many bytes as its kind asks, or as many as there are
+  one_left : (all : List ℕ) → all ≡ drop o f → (k s n : ℕ) → slice_get all 0 ≡ Some k → s ≡ size_of k → n ≡ min s (length all)
+      → cut_from (length f - o) o (drop o f) ≡ piece o (take n all) ∷ cut_from (length f - (o + n)) (o + n) (drop (o + n) f)
+  one_left [] r k s n h z e = cc
+  one_left (b ∷ bs) r k s n h z e =
       let l = length-drop o f in
-      let st = cut_at (length f - o) o s (drop o f) (omega arith) (omega arith) first in
-      let t : e - o ≡ s = omega arith in
-      let m : length f - e ≡ length (drop o f) - s = omega arith in
-      let d : drop s (drop o f) ≡ drop (o + s) f = drop-drop s o f in
-      cc
+      let long : length (b ∷ bs) ≡ length (drop o f) = ap length r in
+      let same : k ≡ b = cc in
+      let sizes : size_of k ≡ size_of b = ap size_of same in
+      let st = cut_step (length f - o) o (b ∷ bs) (omega arith) (omega arith) in
+      ⊎_elim
+      (λ q.
+      let m : n ≡ length (b ∷ bs) = omega arith in
+      let t : take n (b ∷ bs) ≡ b ∷ bs = take_all n (b ∷ bs) (omega arith) in
+      let t' : take (size_of b) (b ∷ bs) ≡ b ∷ bs = take_all (size_of b) (b ∷ bs) (omega arith) in
+      let d : drop (size_of b) (b ∷ bs) ≡ [] = drop_all (size_of b) (b ∷ bs) (omega arith) in
+      let d' : drop (o + n) f ≡ [] = drop_all (o + n) f (omega arith) in
+      let c = cut_none (length (b ∷ bs) - size_of b) (o + size_of b) in
+      let c' = cut_none (length f - (o + n)) (o + n) in
+      cc)
+      (λ q.
+      let m : n ≡ size_of b = omega arith in
+      let t : length f - (o + n) ≡ length (b ∷ bs) - n = omega arith in
+      let d : drop n (b ∷ bs) ≡ drop (o + n) f = ap (drop n) r ∙ drop-drop n o f in
+      cc)
+      (cases_lt (length (b ∷ bs)) (size_of b))
 
-  pub cut_short : length f - o < s → e ≡ length f
-      → cut_from (length f - o) o (drop o f) ≡ piece o (take (e - o) (drop o f)) ∷ cut_from (length f - e) e (drop e f)
-  cut_short w x =
-      let l = length-drop o f in
-      let st = cut_at (length f - o) o s (drop o f) (omega arith) (omega arith) first in
-      let t : take (e - o) (drop o f) ≡ drop o f = take_all (e - o) (drop o f) (omega arith) in
-      let t' : take s (drop o f) ≡ drop o f = take_all s (drop o f) (omega arith) in
-      let d : drop s (drop o f) ≡ [] = drop_all s (drop o f) (omega arith) in
-      let d' : drop e f ≡ [] = drop_all e f (omega arith) in
-      let n = cut_none (length (drop o f) - s) (o + s) in
-      let n' = cut_none (length f - e) e in
-      cc
+  pub at_record : (k s n : ℕ) → slice_get rest 0 ≡ Some k → s ≡ size_of k → n ≡ min s (length rest)
+      → cut_from (length f - o) o (drop o f) ≡ piece o (take n rest) ∷ cut_from (length f - (o + n)) (o + n) (drop (o + n) f)
+  at_record = one_left rest rest_is

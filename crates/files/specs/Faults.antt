@@ -1,6 +1,6 @@
 -- The table of refusals, continued: what is refused of a file.
 use Rattle.std.specs.Prelude.{ℕ, Some, None, Option}
-use Rattle.sheets.specs.Faults.{Told}
+use Rattle.refusals.specs.declared.told.Told.{Told}
 use Rattle.sheets.specs.Faults as sheet
 use Rattle.files.specs.declared.fault.FileCause.{FileCause}
 use Rattle.files.specs.declared.fault.FileCause.TheVariants.{TooLong}

@@ -1,30 +1,31 @@
 // Why a file is refused: by itself, or by the sheet at one of its records.
 ghost use Rattle.std.specs.Prelude.{◌≡◌};
 ghost use Rattle.files.specs.declared.fault.FileRefusal.TheVariants.{File, Record};
-ghost use Rattle.files.specs.Faults.{told, offset_of};
+ghost use Rattle.files.specs.Faults.{number_of, told, offset_of};
 
+use refusals::Told;
 use sheets::SheetRefusal;
 
-#[derive(Clone, Copy)]
+#[derive(Clone, Copy, Debug, PartialEq, Eq)]
 pub enum FileCause {
     TooLong,
 }
 
-// What is refused of the file as a whole.
-#[derive(Clone, Copy)]
+// What is refused of the file as a whole, with the place beside the cause as in a `SheetFault`.
+#[derive(Clone, Copy, Debug, PartialEq, Eq)]
 pub struct FileFault {
     pub cause: FileCause,
     pub place: u8,
 }
 
 // What the sheet refused, and where the record that it was handed begins.
-#[derive(Clone, Copy)]
+#[derive(Clone, Copy, Debug, PartialEq, Eq)]
 pub struct RecordRefusal {
     pub refusal: SheetRefusal,
     pub offset: usize,
 }
 
-#[derive(Clone, Copy)]
+#[derive(Clone, Copy, Debug, PartialEq, Eq)]
 pub enum FileRefusal {
     File(FileFault),
     Record(RecordRefusal),
@@ -46,34 +47,28 @@ impl From<RecordRefusal> for FileRefusal {
     }
 }
 
+impl FileCause {
+    // The number in the table of refusals.
+    fn number(self) -> u8
+        ensures { result ≡ number_of self }
+    {
+        match self {
+            FileCause::TooLong => 15,
+        }
+    }
+}
+
 impl FileRefusal {
-    // The number of the refusal in the table of refusals.
-    pub fn number(&self) -> u8
-        ensures { result ≡ (told self.now).number }
+    pub fn told(&self) -> Told
+        ensures { result ≡ told self.now }
     {
         match self {
-            FileRefusal::File(fault) => match fault.cause {
-                FileCause::TooLong => 15,
+            FileRefusal::File(fault) => Told {
+                number: fault.cause.number(),
+                place: fault.place,
+                depth: 0,
             },
-            FileRefusal::Record(refused) => refused.refusal.number(),
-        }
-    }
-
-    pub fn place(&self) -> u8
-        ensures { result ≡ (told self.now).place }
-    {
-        match self {
-            FileRefusal::File(fault) => fault.place,
-            FileRefusal::Record(refused) => refused.refusal.place(),
-        }
-    }
-
-    pub fn depth(&self) -> u8
-        ensures { result ≡ (told self.now).depth }
-    {
-        match self {
-            FileRefusal::File(_) => 0,
-            FileRefusal::Record(refused) => refused.refusal.depth(),
+            FileRefusal::Record(refused) => refused.refusal.told(),
         }
     }
 

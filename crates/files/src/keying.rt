@@ -1,32 +1,23 @@
 // A file keyed in: its records handed to a sheet in order, up to the first that is refused.
-ghost use Rattle.std.specs.Prelude.{◌≡◌, ◌==◌, slice_index};
-ghost use Rattle.sheets.specs.Contents.{content_of, answered, left};
+ghost use Rattle.std.specs.Prelude.{◌≡◌};
+ghost use Rattle.sheets.specs.Contents.{answered, left};
 ghost use Rattle.files.specs.Cut.{cut};
 ghost use Rattle.files.specs.Keyed.{entering, located, fitted, keyed, keyed_records, answer_of};
 ghost use Rattle.files.specs.Rules.{KeyedByRule};
 
 use crate::fault::{FileCause, FileFault, FileRefusal, RecordRefusal};
 use crate::reader::Reader;
-use sheets::{Sheet, SheetRefusal};
+use sheets::{Kind, Sheet, SheetRefusal};
 
 // The longest file that is looked at, in bytes.
 pub const MAX_FILE: usize = 4096;
 
-fn declares(bytes: &[u8]) -> bool
-    ensures { result ≡ (slice_index bytes.now 0 == 1) }
-{
-    match *bytes {
-        [] => false,
-        [kind, ..] => kind == 0x01,
-    }
-}
-
 // Hands one record to a sheet: a declaration to declare, any other to line.
 fn enter(sheet: &mut Sheet, bytes: &[u8]) -> Result<(), SheetRefusal>
-    ensures answer { result ≡ answered (entering bytes.now (content_of sheet.old)) }
-    ensures sheet { content_of sheet.new ≡ left (entering bytes.now (content_of sheet.old)) (content_of sheet.old) }
+    ensures answer { result ≡ answered (entering bytes.now sheet.old) }
+    ensures sheet { sheet.new ≡ left (entering bytes.now sheet.old) sheet.old }
 {
-    if declares(bytes) {
+    if Kind::of(bytes) == Ok(Kind::Declare) {
         sheet.declare(bytes)
     } else {
         sheet.line(bytes)
@@ -37,12 +28,10 @@ fn enter(sheet: &mut Sheet, bytes: &[u8]) -> Result<(), SheetRefusal>
 fn locate(answer: Result<(), SheetRefusal>, offset: usize) -> Result<(), RecordRefusal>
     ensures { result ≡ located offset answer }
 {
-    match answer {
-        Ok(()) => Ok(()),
-        Err(refusal) => Err(RecordRefusal { refusal, offset }),
-    }
+    answer.map_err(|refusal| RecordRefusal { refusal, offset })
 }
 
+// An `if` with both answers is plainer here than `then_some` and `ok_or`.
 fn fit(length: usize) -> Result<(), FileFault>
     ensures { result ≡ fitted length }
 {
@@ -58,13 +47,12 @@ fn fit(length: usize) -> Result<(), FileFault>
 
 // Hands the records of a file to a sheet, and answers the first fault.
 pub fn key_in(file: &[u8], sheet: &mut Sheet) -> Result<(), FileRefusal>
-    ensures answer { result ≡ answer_of (keyed (content_of sheet.old) file.now).fault }
-    ensures sheet { content_of sheet.new ≡ (keyed (content_of sheet.old) file.now).content }
-    ensures rule { KeyedByRule (content_of sheet.old) (cut file.now) (keyed_records (content_of sheet.old) (cut file.now)) }
+    ensures answer { result ≡ answer_of (keyed sheet.old file.now).fault }
+    ensures sheet { sheet.new ≡ (keyed sheet.old file.now).content }
+    ensures rule { KeyedByRule sheet.old (cut file.now) (keyed_records sheet.old (cut file.now)) }
 {
     fit(file.len())?;
-    let mut reader = Reader::new(file);
-    while let Some(part) = reader.next_record() {
+    for part in Reader::new(file) {
         locate(enter(sheet, part.bytes), part.offset)?;
     }
     Ok(())

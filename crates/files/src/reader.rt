@@ -1,29 +1,21 @@
 // The reader: steps through a file, and hands out each record as a part of it.
-ghost use Rattle.std.specs.Prelude.{◌≡◌, [], ◌∷◌, Some, None};
-ghost use Rattle.std.specs.List.{flat_map};
-ghost use Rattle.files.specs.Cut.{size_of, bytes_of, cut, left_of, piece_of};
-ghost use Rattle.files.specs.Rules.{CutByKind};
+ghost use Rattle.std.specs.Prelude.{◌≤◌, length};
 
-use crate::part::Part;
-use sheets::record_length;
+use crate::part::{Part, size_of};
 
 #[derive(Drop)]
 pub struct Reader<'a> {
     file: &'a [u8],
     offset: usize,
-}
-
-// The length of a record of this kind, where an unknown kind makes a record of one byte.
-fn size_of(kind: u8) -> usize
-    ensures { result ≡ size_of kind }
-{
-    match record_length(kind) {
-        Some(size) => size,
-        None => 1,
-    }
+    ghost inside: { offset ≤ length file.now },
 }
 
 impl<'a> Reader<'a> {
+    ghost use Rattle.std.specs.Prelude.{◌≡◌};
+    ghost use Rattle.std.specs.List.{flat_map};
+    ghost use Rattle.files.specs.Cut.{bytes_of, cut, left_of};
+    ghost use Rattle.files.specs.Rules.{CutByKind};
+
     pub fn new(file: &'a [u8]) -> Reader<'a>
         ensures parts { left_of result ≡ cut file.now }
         ensures rule { CutByKind file.now (cut file.now) }
@@ -31,24 +23,25 @@ impl<'a> Reader<'a> {
     {
         Reader { file, offset: 0 }
     }
+}
 
-    // The next record, or none at the end of the file.
-    pub fn next_record(&mut self) -> Option<Part<'a>>
-        ensures { elim result [ None ↦ (left_of self.old ≡ []) × (left_of self.new ≡ []) | Some p ↦ left_of self.old ≡ piece_of p ∷ left_of self.new ] }
-    {
+impl<'a> Iterator for Reader<'a> {
+    ghost use Rattle.std.specs.Iterator.{YieldsFirstBy, item_count};
+    ghost use Rattle.files.specs.Cut.{left_of, piece_of};
+
+    type Item = Part<'a>;
+
+    ghost next_gives = { YieldsFirstBy piece_of left_of };
+
+    ghost remaining = { item_count left_of };
+
+    fn next(&mut self) -> Option<Part<'a>> {
         let offset = self.offset;
-        if offset >= self.file.len() {
-            return None;
-        }
-        let size = size_of(self.file[offset]);
-        let end = if self.file.len() - offset < size {
-            self.file.len()
-        } else {
-            offset + size
-        };
-        self.offset = end;
+        let rest = &self.file[offset..];
+        let size = size_of(*rest.first()?).min(rest.len());
+        self.offset = offset + size;
         Some(Part {
-            bytes: &self.file[offset..end],
+            bytes: &rest[..size],
             offset,
         })
     }

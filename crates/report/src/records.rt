@@ -1,29 +1,24 @@
 // The records of a file, each with its offset and in words.
 use files::{Part, Reader};
-use sheets::{Line, Sheet};
+use sheets::{Kind, Sheet};
 use std::io;
 
-// Prints an accepted record; `number` is that of the next line. Answers the number after it.
+// Prints an accepted record; `number` is that of the next line. Answers the number after it: it goes along with the
+// records, since not every record is a line.
 fn print_accepted(rt: &impl Print, sheet: &Sheet, part: Part, number: usize) -> io::Result<usize> {
-    let offset = part.offset;
-    if let [0x01, variable, ..] = *part.bytes {
+    if let (Ok(Kind::Declare), &[_, variable, ..]) = (Kind::of(part.bytes), part.bytes) {
         if let Some(width) = sheet.width(variable) {
-            println!(rt; "{offset:>6}  declare v{variable}: {width}")?;
+            println!(rt; "{:>6}  declare v{variable}: {width}", part.offset)?;
         }
-        return Ok(number);
-    }
-    let lines = sheet.lines();
-    if number < lines.len() {
-        let line: Line = lines[number];
-        println!(rt; "{offset:>6}  line {number}: {line}")?;
+    } else if let Some(line) = sheet.lines().get(number) {
+        println!(rt; "{:>6}  line {number}: {line}", part.offset)?;
         return Ok(number + 1);
     }
     Ok(number)
 }
 
 fn print_bytes(rt: &impl Print, part: Part) -> io::Result<()> {
-    let offset = part.offset;
-    print!(rt; "{offset:>6}  refused:")?;
+    print!(rt; "{:>6}  refused:", part.offset)?;
     for byte in part.bytes {
         print!(rt; " {byte:02x}")?;
     }
@@ -37,9 +32,8 @@ pub(crate) fn print_records(
     sheet: &Sheet,
     end: usize,
 ) -> io::Result<()> {
-    let mut reader = Reader::new(file);
     let mut number = 0;
-    while let Some(part) = reader.next_record() {
+    for part in Reader::new(file) {
         if part.offset >= end {
             return print_bytes(rt, part);
         }

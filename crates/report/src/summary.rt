@@ -8,26 +8,27 @@ use std::io;
 fn print_variable(rt: &impl Print, sheet: &Sheet, variable: u8, width: Width) -> io::Result<()> {
     let read = sheet.tally(Access::Read, variable);
     let written = sheet.tally(Access::Write, variable);
-    let reads = read.count;
-    let read_weight = read.weight;
-    let writes = written.count;
-    let write_weight = written.weight;
     println!(rt;
-        "  v{variable} ({width}): reads {reads} (weight {read_weight}), writes {writes} (weight {write_weight})"
+        "  v{variable} ({width}): reads {} (weight {}), writes {} (weight {})",
+        read.count, read.weight, written.count, written.weight
     )
 }
 
-// Prints the declared variables, and answers how many there are.
-fn print_variables(rt: &impl Print, sheet: &Sheet) -> io::Result<u8> {
+fn print_variables(rt: &impl Print, sheet: &Sheet) -> io::Result<()> {
     println!(rt; "variables:")?;
-    let mut count = 0;
     for variable in 0..VARIABLES as u8 {
         if let Some(width) = sheet.width(variable) {
             print_variable(rt, sheet, variable, width)?;
-            count += 1;
         }
     }
-    Ok(count)
+    Ok(())
+}
+
+// How many variables are declared.
+fn count_variables(sheet: &Sheet) -> usize {
+    (0..VARIABLES as u8)
+        .filter(|variable| sheet.width(*variable).is_some())
+        .count()
 }
 
 fn print_prices(rt: &impl Print, sheet: &Sheet) -> io::Result<()> {
@@ -45,16 +46,18 @@ pub(crate) fn report(rt: &impl Print, file: &[u8]) -> io::Result<()> {
         Ok(()) => print_records(rt, file, &sheet, file.len())?,
         Err(refusal) => print_refused(rt, file, &sheet, refusal)?,
     }
-    let variables = print_variables(rt, &sheet)?;
+    print_variables(rt, &sheet)?;
     print_prices(rt, &sheet)?;
-    let bytes = file.len();
-    let lines = sheet.lines().len();
-    let outcome = match answer {
-        Ok(()) => "every record accepted",
-        Err(_) => "stopped at the first refusal",
+    let outcome = if answer.is_ok() {
+        "every record accepted"
+    } else {
+        "stopped at the first refusal"
     };
     println!(rt;
-        "done: {bytes} bytes read, {outcome}; {variables} variables and {lines} lines stand"
+        "done: {} bytes read, {outcome}; {} variables and {} lines stand",
+        file.len(),
+        count_variables(&sheet),
+        sheet.lines().len()
     )
 }
 

@@ -1,4 +1,3 @@
-mod Edited
 mod Ruling
 mod Totals
 mod Walk

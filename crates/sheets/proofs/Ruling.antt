@@ -4,12 +4,10 @@ use Rattle.std.proofs.lemmas.Bool.{cases_Bool, cond_both, both_ways, eqb-true, e
 use Rattle.sheets.specs.declared.line.Width.{Width}
 use Rattle.sheets.specs.declared.field.Field.{Field}
 use Rattle.sheets.specs.declared.field.Field.TheVariants.{Port}
-use Rattle.sheets.specs.declared.field.Test.{Test}
-use Rattle.sheets.specs.declared.field.Test.TheVariants.{InRange, Declared, OfWidth}
 use Rattle.sheets.specs.declared.fault.Cause.TheVariants.{UnknownKind}
 use Rattle.sheets.specs.declared.fault.SheetFault.{SheetFault}
 use Rattle.sheets.specs.Table.{Row, size, row_of, declaration_rows, line_rows}
-use Rattle.sheets.specs.Records.{passes, cause_of, fault, first_fault, unless, tested, judged, read_as}
+use Rattle.sheets.specs.Records.{Test, passes, cause_of, fault, first_fault, unless, tested, judged, read_as, declaration_of, line_of}
 use Rattle.sheets.specs.Rules.{Listed, OfRow, Fails, Never, Lowest, PassedBefore, Ruled, ByTheRule}
 
 -- # The row of a kind
@@ -111,17 +109,17 @@ module _ {A : Type 0} (rows : List (Row A)) (ws : List (Option Width)) (r : List
     test t next None e before rest = rest (never t e)
     test t next (Some f) e before rest = lowest t f before e
 
-    passed : Never (Fails InRange ws x.fields r) → Never (Fails Declared ws x.fields r) → Never (Fails OfWidth ws x.fields r)
+    passed : Never (Fails Test.InRange ws x.fields r) → Never (Fails Test.Declared ws x.fields r) → Never (Fails Test.OfWidth ws x.fields r)
         → (t : Test) → Never (Fails t ws x.fields r)
-    passed a b c InRange = a
-    passed a b c Declared = b
-    passed a b c OfWidth = c
+    passed a b c Test.InRange = a
+    passed a b c Test.Declared = b
+    passed a b c Test.OfWidth = c
 
     by_tests : Ruled rows ws r (tested ws x.fields r (x.says (λ i. get_or r i 0)))
     by_tests =
-        test InRange _ (first_fault InRange ws 1 x.fields r) refl tt (λ a.
-        test Declared _ (first_fault Declared ws 1 x.fields r) refl a (λ b.
-        test OfWidth _ (first_fault OfWidth ws 1 x.fields r) refl (a, b) (λ c.
+        test Test.InRange _ (first_fault Test.InRange ws 1 x.fields r) refl tt (λ a.
+        test Test.Declared _ (first_fault Test.Declared ws 1 x.fields r) refl a (λ b.
+        test Test.OfWidth _ (first_fault Test.OfWidth ws 1 x.fields r) refl (a, b) (λ c.
         Ruled.accepted x of_row long (passed a b c))))
 
   by_row : row_of 0 rows ≡ None → (o : Option (Row A)) → row_of (get_or r 0 0) rows ≡ o → Ruled rows ws r (judged ws r o)
@@ -144,10 +142,10 @@ abbrev pub Apart : {A : Type 0} → List (Row A) → Type 0
 Apart [] = Unit {0}
 Apart (x ∷ xs) = (row_of x.kind xs ≡ None) × Apart xs
 
-pub declaration_apart : Apart declaration_rows
+declaration_apart : Apart declaration_rows
 declaration_apart = (refl, tt)
 
-pub line_apart : Apart line_rows
+line_apart : Apart line_rows
 line_apart = (refl, (refl, (refl, (refl, (refl, (refl, (refl, (refl, (refl, tt)))))))))
 
 row_there : {A : Type 0} (k : ℕ) (rows : List (Row A)) (x : Row A) → Apart rows → Listed x rows → x.kind ≡ k → row_of k rows ≡ Some x
@@ -192,10 +190,10 @@ module _ {A : Type 0} (rows : List (Row A)) (no_zero : row_of 0 rows ≡ None) (
 
   at_byte : (x : Row A) (a : A) (t : Test) → PassedBefore t ws x.fields r → (i : ℕ) → Lowest (Fails t ws x.fields r) i
       → tested ws x.fields r a ≡ Err (fault (cause_of t (get_or x.fields i Port)) (1 + i))
-  at_byte x a InRange before i l = rw (lowest_first InRange ws r x.fields i l)
-  at_byte x a Declared before i l = rw (none_first InRange ws r x.fields before, lowest_first Declared ws r x.fields i l)
-  at_byte x a OfWidth before i l =
-      rw (none_first InRange ws r x.fields before.0, none_first Declared ws r x.fields before.1, lowest_first OfWidth ws r x.fields i l)
+  at_byte x a Test.InRange before i l = rw (lowest_first Test.InRange ws r x.fields i l)
+  at_byte x a Test.Declared before i l = rw (none_first Test.InRange ws r x.fields before, lowest_first Test.Declared ws r x.fields i l)
+  at_byte x a Test.OfWidth before i l =
+      rw (none_first Test.InRange ws r x.fields before.0, none_first Test.Declared ws r x.fields before.1, lowest_first Test.OfWidth ws r x.fields i l)
 
   no_row : ((x : Row A) → OfRow rows r x → ⊥) → (o : Option (Row A)) → row_of (get_or r 0 0) rows ≡ o → Err (fault UnknownKind 0) ≡ judged ws r o
   no_row n None e = refl
@@ -209,7 +207,13 @@ module _ {A : Type 0} (rows : List (Row A)) (no_zero : row_of 0 rows ≡ None) (
   alone b (Ruled.refused_byte x o len t before i l) = sym (at_length x o len ∙ at_byte x _ t before i l)
   alone b (Ruled.accepted x o len n) =
       sym (at_length x o len
-      ∙ rw (none_first InRange ws r x.fields (n InRange), none_first Declared ws r x.fields (n Declared), none_first OfWidth ws r x.fields (n OfWidth)))
+      ∙ rw (none_first Test.InRange ws r x.fields (n Test.InRange), none_first Test.Declared ws r x.fields (n Test.Declared), none_first Test.OfWidth ws r x.fields (n Test.OfWidth)))
 
-  pub by_the_rule : ByTheRule rows ws r (read_as rows ws r)
+  by_the_rule : ByTheRule rows ws r (read_as rows ws r)
   by_the_rule = record { holds = ruled rows ws r no_zero; alone = alone }
+
+pub declaration_by_rule : (ws : List (Option Width)) (r : List ℕ) → ByTheRule declaration_rows ws r (declaration_of ws r)
+declaration_by_rule = by_the_rule declaration_rows refl declaration_apart
+
+pub line_by_rule : (ws : List (Option Width)) (r : List ℕ) → ByTheRule line_rows ws r (line_of ws r)
+line_by_rule = by_the_rule line_rows refl line_apart

@@ -1,21 +1,25 @@
--- Counts, weights and prices, one line further on.
-use Rattle.std.proofs.Common.{◌≡◌, ℕ, ◌+◌, ◌*◌, ◌<◌, ◌≤◌, List, length, get_or, drop, sym, ap, ◌∙◌}
+-- How often a variable is named, and the price of one line more.
+use Rattle.std.proofs.Common.{◌≡◌, ℕ, ◌+◌, ◌<◌, ◌≤◌, Bool, true, false, cond, eqb, List, ◌∷◌, length, get_or, drop, Some, None, Option, nat_eq, count_by, refl, sym, ◌∙◌, zero-add}
+use Rattle.std.specs.Option.{option_eq}
 use Rattle.std.proofs.lemmas.List.{drop_more, drop_all}
+use Rattle.std.proofs.lemmas.List.Recursion.{is_count_by}
 use Rattle.prices.specs.declared.price.Price.{Ghosts as Kind}
-use Rattle.sheets.specs.declared.access.Access.{Access}
 use Rattle.sheets.specs.declared.line.Line.{Line}
-use Rattle.sheets.specs.Lines.{weight}
-use Rattle.sheets.specs.Usage.{named, times, count_in, weight_in}
+use Rattle.sheets.specs.Usage.{present, times}
 use Rattle.sheets.specs.Placement.{line_price, price}
 
--- # What is left of the lines
+-- # How often a variable is named
 
-module _ (a : Access) (v : ℕ) (ls : List Line) (i : ℕ) (d : Line) (h : i < length ls) (t w : ℕ) (e : t ≡ times v (named a (get_or ls i d))) where
-  pub count_more : count_in a (drop i ls) v ≡ t + count_in a (drop (i + 1) ls) v
-  count_more = rw (drop_more ls i d, e)
+one_more : (b : Bool) (n : ℕ) → cond b 1 0 + n ≡ cond b (1 + n) n
+one_more true n = refl
+one_more false n = zero-add n
 
-  pub weight_more : w ≡ weight (get_or ls i d) → weight_in a (drop i ls) v ≡ w * t + weight_in a (drop (i + 1) ls) v
-  weight_more f = rw (drop_more ls i d, e, f)
+named_more : (v : ℕ) (o : Option ℕ) (ps : List (Option ℕ)) → times v (present (o ∷ ps)) ≡ cond (option_eq nat_eq (Some v) o) (1 + times v (present ps)) (times v (present ps))
+named_more v None ps = refl
+named_more v (Some x) ps = one_more (eqb v x) _
+
+pub times_present : (v : ℕ) (os : List (Option ℕ)) → count_by (λ o. option_eq nat_eq (Some v) o) os ≡ times v (present os)
+times_present v os = sym (is_count_by (λ ps. times v (present ps)) (λ o. option_eq nat_eq (Some v) o) refl (λ o ps. named_more v o ps) os)
 
 -- # Sums of prices
 
@@ -30,7 +34,3 @@ module _ {P : Type 0} (k : Kind P) where
 
   pub price_all : (c : ℕ → ℕ) (t : P) (ls : List Line) (i : ℕ) → length ls ≤ i → k.sum t (price k (drop i ls) c) ≡ t
   price_all c t ls i h = rw (drop_all i ls h) (sum_zero t)
-
-  -- three equal prices, as the accesses of a line add them up
-  pub sum_three : (x : P) → k.sum (k.sum x (k.sum x (k.sum x k.least))) k.least ≡ k.sum x (k.sum x x)
-  sum_three x = sum_zero _ ∙ ap (λ y. k.sum x (k.sum x y)) (sum_zero x)

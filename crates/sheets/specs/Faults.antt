@@ -1,5 +1,6 @@
 -- The table of refusals: each cause with its number.
 use Rattle.std.specs.Prelude.{ℕ}
+use Rattle.refusals.specs.declared.told.Told.{Told}
 use Rattle.sheets.specs.declared.fault.Cause.{Cause}
 use Rattle.sheets.specs.declared.fault.Cause.TheVariants.{UnknownKind, WrongLength, OutOfRange, DeclaredAgain, Undeclared, WrongWidth, SheetFull, NoLine}
 use Rattle.sheets.specs.declared.fault.SheetRefusal.{SheetRefusal}
@@ -14,12 +15,6 @@ number_of Undeclared = 4
 number_of WrongWidth = 5
 number_of SheetFull = 6
 number_of NoLine = 7
-
--- what the caller of a refused call is told
-pub record Told : Type 0 where
-  pub number : ℕ
-  pub place : ℕ
-  pub depth : ℕ
 
 abbrev pub told : SheetRefusal → Told
 told (Sheet f) = record { number = number_of f.cause; place = f.place; depth = 0 }

@@ -1,6 +1,7 @@
 pub mod Lines
 pub mod Table
 pub mod Records
+pub mod Kinds
 pub mod Rules
 pub mod Contents
 pub mod Faults

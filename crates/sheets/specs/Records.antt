@@ -1,5 +1,5 @@
 -- When a record is refused: the tests in their order, each at the lowest offset that fails it.
-use Rattle.std.specs.Prelude.{ℕ, ◌+◌, Bool, true, false, cond, ◌&&◌, List, [], ◌∷◌, length, Some, None, Ok, Err, Option, Result, ◌==◌, nat_le, slice_index, slice_index_or}
+use Rattle.std.specs.Prelude.{◌≡◌, ℕ, ◌+◌, ◌<◌, Bool, true, false, cond, ◌&&◌, List, [], ◌∷◌, length, Some, None, Ok, Err, Option, Result, ◌==◌, nat_le, slice_index, slice_index_or}
 use Rattle.sheets.specs.declared.line.Width.{Width}
 use Rattle.sheets.specs.declared.line.Width.TheVariants.{Word, Wide}
 use Rattle.sheets.specs.declared.line.Declaration.{Declaration}
@@ -8,14 +8,18 @@ use Rattle.sheets.specs.declared.field.Field.{Field}
 use Rattle.sheets.specs.declared.field.Field.TheVariants.{Declares, WidthCode, Variable, Port, Target, Weight}
 use Rattle.sheets.specs.declared.field.Wanted.{Wanted}
 use Rattle.sheets.specs.declared.field.Wanted.TheVariants.{Exactly, Any, LikeFirst}
-use Rattle.sheets.specs.declared.field.Test.{Test}
-use Rattle.sheets.specs.declared.field.Test.TheVariants.{InRange, Declared, OfWidth}
 use Rattle.sheets.specs.declared.fault.Cause.{Cause}
 use Rattle.sheets.specs.declared.fault.Cause.TheVariants.{UnknownKind, WrongLength, OutOfRange, DeclaredAgain, Undeclared, WrongWidth}
 use Rattle.sheets.specs.declared.fault.SheetFault.{SheetFault}
 use Rattle.sheets.specs.Table.{Row, size, row_of, declaration_rows, line_rows}
 
 -- # One byte
+
+-- what is tested of every byte of a record's body, in this order
+pub data Test : Type 0 where
+  InRange : Test
+  Declared : Test
+  OfWidth : Test
 
 -- the lowest and the highest byte of a field
 abbrev pub range : Field → ℕ × ℕ
@@ -75,9 +79,9 @@ width_of ws v = slice_index_or ws v None
 
 -- whether byte `b` passes a test as this field, where `first` is the byte at offset 1
 abbrev pub passes : Test → List (Option Width) → Field → ℕ → ℕ → Bool
-passes InRange ws x b first = within (range x) b
-passes Declared ws x b first = declared_so x (width_of ws b)
-passes OfWidth ws x b first = of_width x (width_of ws b) (width_of ws first)
+passes Test.InRange ws x b first = within (range x) b
+passes Test.Declared ws x b first = declared_so x (width_of ws b)
+passes Test.OfWidth ws x b first = of_width x (width_of ws b) (width_of ws first)
 
 -- # One record
 
@@ -94,9 +98,13 @@ undeclared_as Weight = Undeclared
 
 -- why a byte is refused that does not pass
 abbrev pub cause_of : Test → Field → Cause
-cause_of InRange x = OutOfRange
-cause_of Declared x = undeclared_as x
-cause_of OfWidth x = WrongWidth
+cause_of Test.InRange x = OutOfRange
+cause_of Test.Declared x = undeclared_as x
+cause_of Test.OfWidth x = WrongWidth
+
+-- whatever a call with a field and a byte may answer is the cause for which the test refuses that byte, where `first` is the byte at offset 1
+abbrev pub TestsBy : (Field → ℕ → Option Cause → Type 0) → Test → List (Option Width) → ℕ → Type 0
+TestsBy answers t ws first = (x : Field) (b : ℕ) (r : Option Cause) → b < 256 → answers x b r → r ≡ cond (passes t ws x b first) None (Some (cause_of t x))
 
 -- the fault of the lowest offset, from `at` on, whose byte does not pass
 abbrev pub first_fault : Test → List (Option Width) → ℕ → List Field → List ℕ → Option SheetFault
@@ -111,7 +119,7 @@ unless (Some f) next = Err f
 -- each test on all bytes before the next test
 abbrev pub tested : {A : Type 0} → List (Option Width) → List Field → List ℕ → A → Result A SheetFault
 tested ws xs r a =
-    unless (first_fault InRange ws 1 xs r) (unless (first_fault Declared ws 1 xs r) (unless (first_fault OfWidth ws 1 xs r) (Ok a)))
+    unless (first_fault Test.InRange ws 1 xs r) (unless (first_fault Test.Declared ws 1 xs r) (unless (first_fault Test.OfWidth ws 1 xs r) (Ok a)))
 
 abbrev pub judged : {A : Type 0} → List (Option Width) → List ℕ → Option (Row A) → Result A SheetFault
 judged ws r None = Err (fault UnknownKind 0)

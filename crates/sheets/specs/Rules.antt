@@ -3,12 +3,10 @@ use Rattle.std.specs.Prelude.{◌≡◌, ℕ, ◌+◌, ◌<◌, false, ◌⊎◌
 use Rattle.sheets.specs.declared.line.Width.{Width}
 use Rattle.sheets.specs.declared.field.Field.{Field}
 use Rattle.sheets.specs.declared.field.Field.TheVariants.{Port}
-use Rattle.sheets.specs.declared.field.Test.{Test}
-use Rattle.sheets.specs.declared.field.Test.TheVariants.{InRange, Declared, OfWidth}
 use Rattle.sheets.specs.declared.fault.Cause.TheVariants.{UnknownKind, WrongLength}
 use Rattle.sheets.specs.declared.fault.SheetFault.{SheetFault}
 use Rattle.sheets.specs.Table.{Row, size}
-use Rattle.sheets.specs.Records.{passes, cause_of, fault}
+use Rattle.sheets.specs.Records.{Test, passes, cause_of, fault}
 
 abbrev pub Listed : {A : Type 0} → Row A → List (Row A) → Type 0
 Listed x [] = ⊥
@@ -34,9 +32,9 @@ pub record Lowest (P : ℕ → Type 0) (i : ℕ) : Type 0 where
 
 -- no byte fails a test that comes before this one
 abbrev pub PassedBefore : Test → List (Option Width) → List Field → List ℕ → Type 0
-PassedBefore InRange ws xs r = Unit {0}
-PassedBefore Declared ws xs r = Never (Fails InRange ws xs r)
-PassedBefore OfWidth ws xs r = Never (Fails InRange ws xs r) × Never (Fails Declared ws xs r)
+PassedBefore Test.InRange ws xs r = Unit {0}
+PassedBefore Test.Declared ws xs r = Never (Fails Test.InRange ws xs r)
+PassedBefore Test.OfWidth ws xs r = Never (Fails Test.InRange ws xs r) × Never (Fails Test.Declared ws xs r)
 
 -- what a record is answered under these rows, where the widths are those declared
 pub data Ruled {A : Type 0} (rows : List (Row A)) (ws : List (Option Width)) (r : List ℕ) : Result A SheetFault → Type 0 where

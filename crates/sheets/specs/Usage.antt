@@ -1,5 +1,5 @@
 -- How often, and at what weight, lines read or write a variable.
-use Rattle.std.specs.Prelude.{ℕ, ◌+◌, ◌*◌, cond, List, [], ◌∷◌, ◌==◌}
+use Rattle.std.specs.Prelude.{ℕ, ◌+◌, ◌*◌, cond, List, [], ◌∷◌, Some, None, Option, ◌==◌}
 use Rattle.sheets.specs.declared.line.Line.{Line}
 use Rattle.sheets.specs.declared.access.Access.{Access}
 use Rattle.sheets.specs.declared.access.Access.TheVariants.{Read, Write}
@@ -10,6 +10,12 @@ use Rattle.sheets.specs.Lines.{reads, writes, weight}
 abbrev pub named : Access → Line → List ℕ
 named Read l = reads l
 named Write l = writes l
+
+-- the variables of a list with empty places
+abbrev pub present : List (Option ℕ) → List ℕ
+present [] = []
+present (None ∷ os) = present os
+present (Some v ∷ os) = v ∷ present os
 
 -- how often v stands in a list
 abbrev pub times : ℕ → List ℕ → ℕ

@@ -8,7 +8,8 @@ use Rattle.sheets.specs.declared.fault.Cause.{Cause}
 use Rattle.sheets.specs.declared.fault.Cause.TheVariants.{UnknownKind, WrongLength, OutOfRange, DeclaredAgain, Undeclared, WrongWidth, SheetFull, NoLine}
 use Rattle.sheets.specs.declared.fault.SheetRefusal.{SheetRefusal}
 use Rattle.sheets.specs.declared.fault.SheetRefusal.TheVariants.{Sheet}
-use Rattle.sheets.specs.Faults.{Told, told}
+use Rattle.sheets.specs.Faults.{told}
+use Rattle.refusals.specs.Words.{told_words}
 
 abbrev pub width_words : Width → List ℕ
 width_words Word = codes "word"
@@ -44,8 +45,5 @@ cause_words NoLine = codes "no line stands"
 abbrev pub reason_words : SheetRefusal → List ℕ
 reason_words (Sheet f) = cause_words f.cause
 
-abbrev pub told_words : Told → List ℕ
-told_words t = codes " (refusal " ++ (decimal t.number ++ (codes ", place " ++ (decimal t.place ++ (codes ", depth " ++ (decimal t.depth ++ codes ")")))))
-
 abbrev pub refusal_words : SheetRefusal → List ℕ
-refusal_words r = reason_words r ++ told_words (told r)
+refusal_words r = reason_words r ++ (codes " (" ++ (told_words (told r) ++ codes ")"))

@@ -1,9 +1,12 @@
 // Why a call on a sheet is refused.
 ghost use Rattle.std.specs.Prelude.{◌≡◌};
 ghost use Rattle.sheets.specs.declared.fault.SheetRefusal.TheVariants.{Sheet};
-ghost use Rattle.sheets.specs.Faults.{told};
+ghost use Rattle.sheets.specs.Faults.{number_of, told};
+ghost use Rattle.sheets.specs.Records.{fault};
 
-#[derive(Clone, Copy)]
+use refusals::Told;
+
+#[derive(Clone, Copy, Debug, PartialEq, Eq)]
 pub enum Cause {
     UnknownKind,
     WrongLength,
@@ -15,15 +18,16 @@ pub enum Cause {
     NoLine,
 }
 
-// What the sheet itself refuses: why, and where. What the place counts hangs on the cause.
-#[derive(Clone, Copy)]
+// What the sheet itself refuses: why, and where. What the place counts hangs on the cause. The place stands beside the
+// cause, not in its cases: it means something for most of them, and the rule of refusals speaks of both at once.
+#[derive(Clone, Copy, Debug, PartialEq, Eq)]
 pub struct SheetFault {
     pub cause: Cause,
     pub place: u8,
 }
 
 // A refused call, by the part that refused it.
-#[derive(Clone, Copy)]
+#[derive(Clone, Copy, Debug, PartialEq, Eq)]
 pub enum SheetRefusal {
     Sheet(SheetFault),
 }
@@ -36,38 +40,41 @@ impl From<SheetFault> for SheetRefusal {
     }
 }
 
+impl Cause {
+    // The number in the table of refusals.
+    fn number(self) -> u8
+        ensures { result ≡ number_of self }
+    {
+        match self {
+            Cause::UnknownKind => 1,
+            Cause::WrongLength => 2,
+            Cause::OutOfRange => 3,
+            Cause::DeclaredAgain | Cause::Undeclared => 4,
+            Cause::WrongWidth => 5,
+            Cause::SheetFull => 6,
+            Cause::NoLine => 7,
+        }
+    }
+
+    // The fault of this cause at a place.
+    pub(crate) fn at(self, place: u8) -> SheetFault
+        ensures { result ≡ fault self place }
+    {
+        SheetFault { cause: self, place }
+    }
+}
+
 impl SheetRefusal {
-    // The number of the refusal in the table of refusals.
-    pub fn number(&self) -> u8
-        ensures { result ≡ (told self.now).number }
+    // The depth counts how many layers up a solver's refusal came; it is 0 for what the sheet refuses.
+    pub fn told(&self) -> Told
+        ensures { result ≡ told self.now }
     {
         match self {
-            SheetRefusal::Sheet(fault) => match fault.cause {
-                Cause::UnknownKind => 1,
-                Cause::WrongLength => 2,
-                Cause::OutOfRange => 3,
-                Cause::DeclaredAgain | Cause::Undeclared => 4,
-                Cause::WrongWidth => 5,
-                Cause::SheetFull => 6,
-                Cause::NoLine => 7,
+            SheetRefusal::Sheet(fault) => Told {
+                number: fault.cause.number(),
+                place: fault.place,
+                depth: 0,
             },
-        }
-    }
-
-    pub fn place(&self) -> u8
-        ensures { result ≡ (told self.now).place }
-    {
-        match self {
-            SheetRefusal::Sheet(SheetFault { place, .. }) => *place,
-        }
-    }
-
-    // How many layers up a solver's refusal came; 0 for what the sheet refuses.
-    pub fn depth(&self) -> u8
-        ensures { result ≡ (told self.now).depth }
-    {
-        match self {
-            SheetRefusal::Sheet(_) => 0,
         }
     }
 }

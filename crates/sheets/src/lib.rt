@@ -5,6 +5,7 @@ mod access;
 mod calls;
 mod fault;
 mod field;
+mod kind;
 mod line;
 mod record;
 mod sheet;
@@ -13,6 +14,6 @@ mod words;
 
 pub use access::{Access, Tally};
 pub use fault::{Cause, SheetFault, SheetRefusal};
+pub use kind::{Kind, record_length};
 pub use line::{Line, Width};
-pub use record::record_length;
 pub use sheet::{MAX_LINES, Sheet, VARIABLES};

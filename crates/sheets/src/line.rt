@@ -1,7 +1,7 @@
 // What a sheet holds: declared widths, and lines by their kind.
 
 // How much a variable holds: a word fills a register, a wide variable a pair of them.
-#[derive(Clone, Copy)]
+#[derive(Clone, Copy, Debug, PartialEq, Eq)]
 pub enum Width {
     Word,
     Wide,
@@ -16,7 +16,7 @@ pub struct Declaration {
 
 // One line, with the bytes of its record by their letters in the table of records: it writes d, reads s, a and b,
 // and goes to line t; w is its weight.
-#[derive(Clone, Copy)]
+#[derive(Clone, Copy, Debug, Default, PartialEq, Eq)]
 pub enum Line {
     Input { d: u8, port: u8, w: u8 },
     Output { s: u8, port: u8, w: u8 },
@@ -26,5 +26,6 @@ pub enum Line {
     UpperHalf { d: u8, s: u8, w: u8 },
     GoTo { t: u8 },
     GoToIfZero { s: u8, t: u8, w: u8 },
+    #[default]
     End,
 }

@@ -1,8 +1,8 @@
 // How often lines read and write a variable, and what they cost with everything in memory.
-ghost use Rattle.std.specs.Prelude.{◌≡◌, ◌+◌, ◌*◌, ◌≤◌, [], ◌∷◌, length};
+ghost use Rattle.std.specs.Prelude.{◌≡◌, ◌≤◌, length, Some, nat_eq, count_by};
+ghost use Rattle.std.specs.Option.{option_eq, option_to_list};
 ghost use Rattle.sheets.specs.Lines.{reads, writes, weight};
-ghost use Rattle.sheets.specs.Usage.{named, times, tally_of};
-ghost use Rattle.sheets.specs.Contents.{content_of};
+ghost use Rattle.sheets.specs.Usage.{present, named, times, tally_of};
 ghost use Rattle.sheets.specs.Placement.{line_price, price, everything_in_memory};
 
 use crate::access::{Access, Tally};
@@ -10,59 +10,67 @@ use crate::line::Line;
 use crate::sheet::Sheet;
 use prices::Price;
 
-fn weight_of(line: Line) -> u8
-    ensures { result ≡ weight line }
-{
-    match line {
-        Line::Input { w, .. } | Line::Output { w, .. } => w,
-        Line::Copy { w, .. } | Line::UpperHalf { w, .. } => w,
-        Line::Add { w, .. } | Line::Multiply { w, .. } => w,
-        Line::GoToIfZero { w, .. } => w,
-        Line::GoTo { .. } | Line::End => 0,
-    }
-}
-
-fn once(variable: u8, other: u8) -> u16
-    ensures { result ≡ times variable (other ∷ []) }
-{
-    if variable == other { 1 } else { 0 }
-}
-
-fn times_read(line: Line, variable: u8) -> u16
-    ensures value { result ≡ times variable (reads line) }
-    ensures low { result ≤ 2 }
-{
-    match line {
-        Line::Add { a, b, .. } | Line::Multiply { a, b, .. } => {
-            once(variable, a) + once(variable, b)
+impl Line {
+    // The variables that the line reads.
+    fn reads(self) -> [Option<u8>; 2]
+        ensures { present result ≡ reads self }
+    {
+        match self {
+            Line::Add { a, b, .. } | Line::Multiply { a, b, .. } => [Some(a), Some(b)],
+            Line::Output { s, .. } | Line::Copy { s, .. } => [Some(s), None],
+            Line::UpperHalf { s, .. } | Line::GoToIfZero { s, .. } => [Some(s), None],
+            Line::Input { .. } | Line::GoTo { .. } | Line::End => [None; 2],
         }
-        Line::Output { s, .. } | Line::Copy { s, .. } => once(variable, s),
-        Line::UpperHalf { s, .. } | Line::GoToIfZero { s, .. } => once(variable, s),
-        Line::Input { .. } | Line::GoTo { .. } | Line::End => 0,
+    }
+
+    // The variable that the line writes.
+    fn writes(self) -> Option<u8>
+        ensures { option_to_list result ≡ writes self }
+    {
+        match self {
+            Line::Input { d, .. } | Line::Copy { d, .. } | Line::UpperHalf { d, .. } => Some(d),
+            Line::Add { d, .. } | Line::Multiply { d, .. } => Some(d),
+            Line::Output { .. } | Line::GoTo { .. } | Line::GoToIfZero { .. } | Line::End => None,
+        }
+    }
+
+    fn weight(self) -> u8
+        ensures { result ≡ weight self }
+    {
+        match self {
+            Line::Input { w, .. } | Line::Output { w, .. } => w,
+            Line::Copy { w, .. } | Line::UpperHalf { w, .. } => w,
+            Line::Add { w, .. } | Line::Multiply { w, .. } => w,
+            Line::GoToIfZero { w, .. } => w,
+            Line::GoTo { .. } | Line::End => 0,
+        }
+    }
+
+    // The variables that the line reads, or writes.
+    fn named(self, access: Access) -> [Option<u8>; 2]
+        ensures { present result ≡ named access self }
+    {
+        match access {
+            Access::Read => self.reads(),
+            Access::Write => [self.writes(), None],
+        }
+    }
+
+    // How often the line reads, or writes, a variable.
+    fn times(self, access: Access, variable: u8) -> u16
+        ensures value { result ≡ times variable (named access self) }
+        ensures low { result ≤ 2 }
+    {
+        times_in(&self.named(access), variable) as u16
     }
 }
 
-fn times_written(line: Line, variable: u8) -> u16
-    ensures value { result ≡ times variable (writes line) }
-    ensures low { result ≤ 2 }
+// How many of these names are the variable's.
+fn times_in(names: &[Option<u8>], variable: u8) -> usize
+    ensures value { result ≡ count_by (λ name. option_eq nat_eq (Some variable) name) names.now }
+    ensures low { result ≤ length names.now }
 {
-    match line {
-        Line::Input { d, .. } | Line::Copy { d, .. } => once(variable, d),
-        Line::Add { d, .. } | Line::Multiply { d, .. } => once(variable, d),
-        Line::UpperHalf { d, .. } => once(variable, d),
-        Line::Output { .. } | Line::GoTo { .. } | Line::GoToIfZero { .. } | Line::End => 0,
-    }
-}
-
-// How often a line reads, or writes, a variable.
-fn times_in(line: Line, access: Access, variable: u8) -> u16
-    ensures value { result ≡ times variable (named access line) }
-    ensures low { result ≤ 2 }
-{
-    match access {
-        Access::Read => times_read(line, variable),
-        Access::Write => times_written(line, variable),
-    }
+    names.iter().filter(|name| Some(variable) == **name).count()
 }
 
 // How often, and at what weight, lines read or write a variable.
@@ -73,9 +81,9 @@ fn tally_of(lines: &[Line], access: Access, variable: u8) -> Tally
     let mut count = 0;
     let mut weight = 0;
     for line in lines {
-        let times = times_in(*line, access, variable);
+        let times = line.times(access, variable);
         count += times;
-        weight += weight_of(*line) as u16 * times;
+        weight += u16::from(line.weight()) * times;
     }
     Tally { count, weight }
 }
@@ -84,7 +92,7 @@ fn tally_of(lines: &[Line], access: Access, variable: u8) -> Tally
 fn line_in_memory<P: Price>(line: Line) -> P
     ensures { result ≡ line_price P.Price everything_in_memory line }
 {
-    let one = P::access_price(weight_of(line));
+    let one = P::access_price(line.weight());
     match line {
         Line::Input { .. } | Line::Output { .. } | Line::GoToIfZero { .. } => one,
         Line::Copy { .. } | Line::UpperHalf { .. } => one.add(one),
@@ -96,18 +104,17 @@ fn line_in_memory<P: Price>(line: Line) -> P
 impl Sheet {
     // How often, and at what weight, the standing lines read or write a variable.
     pub fn tally(&self, access: Access, variable: u8) -> Tally
-        ensures { result ≡ tally_of access (content_of self.now).lines variable }
+        ensures { result ≡ tally_of access self.now.lines variable }
     {
-        tally_of(&self.lines[0..self.count], access, variable)
+        tally_of(self.lines(), access, variable)
     }
 
     // What the standing lines cost with everything in memory.
     pub fn price_in_memory<P: Price>(&self) -> P
-        ensures { result ≡ price P.Price (content_of self.now).lines everything_in_memory }
+        ensures { result ≡ price P.Price self.now.lines everything_in_memory }
     {
-        let lines = self.lines();
         let mut total = P::zero();
-        for line in lines {
+        for line in self.lines() {
             total = total.add(line_in_memory(*line));
         }
         total

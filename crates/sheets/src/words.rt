@@ -1,5 +1,5 @@
 // Lines, widths and refusals in words.
-ghost use Rattle.std.specs.Prelude.{◌≡◌, Some};
+ghost use Rattle.std.specs.Prelude.{Some};
 ghost use Rattle.sheets.specs.Words.{width_words, line_words, cause_words, refusal_words};
 
 use crate::fault::{Cause, SheetRefusal};
@@ -10,10 +10,10 @@ impl fmt::Display for Width {
     ghost output = { λ w. Some (width_words w) };
 
     fn fmt<W: fmt::Write>(&self, f: &mut fmt::Formatter<W>) -> fmt::Result {
-        match self {
-            Width::Word => write!(f, "word"),
-            Width::Wide => write!(f, "wide"),
-        }
+        f.write_str(match self {
+            Width::Word => "word",
+            Width::Wide => "wide",
+        })
     }
 }
 
@@ -35,19 +35,20 @@ impl fmt::Display for Line {
     }
 }
 
-// Why a call is refused, in words.
-fn reason(cause: Cause) -> &'static str
-    ensures { result.now ≡ cause_words cause }
-{
-    match cause {
-        Cause::UnknownKind => "the record is empty or not of a kind that this call takes",
-        Cause::WrongLength => "the record is not as long as its kind asks",
-        Cause::OutOfRange => "a byte is out of its range",
-        Cause::DeclaredAgain => "the variable is declared already",
-        Cause::Undeclared => "a variable is not declared",
-        Cause::WrongWidth => "a variable has the wrong width",
-        Cause::SheetFull => "64 lines stand already",
-        Cause::NoLine => "no line stands",
+impl fmt::Display for Cause {
+    ghost output = { λ c. Some (cause_words c) };
+
+    fn fmt<W: fmt::Write>(&self, f: &mut fmt::Formatter<W>) -> fmt::Result {
+        f.write_str(match self {
+            Cause::UnknownKind => "the record is empty or not of a kind that this call takes",
+            Cause::WrongLength => "the record is not as long as its kind asks",
+            Cause::OutOfRange => "a byte is out of its range",
+            Cause::DeclaredAgain => "the variable is declared already",
+            Cause::Undeclared => "a variable is not declared",
+            Cause::WrongWidth => "a variable has the wrong width",
+            Cause::SheetFull => "64 lines stand already",
+            Cause::NoLine => "no line stands",
+        })
     }
 }
 
@@ -55,15 +56,8 @@ impl fmt::Display for SheetRefusal {
     ghost output = { λ r. Some (refusal_words r) };
 
     fn fmt<W: fmt::Write>(&self, f: &mut fmt::Formatter<W>) -> fmt::Result {
-        let reason = match *self {
-            SheetRefusal::Sheet(fault) => reason(fault.cause),
-        };
-        let number = self.number();
-        let place = self.place();
-        let depth = self.depth();
-        write!(
-            f,
-            "{reason} (refusal {number}, place {place}, depth {depth})"
-        )
+        match self {
+            SheetRefusal::Sheet(fault) => write!(f, "{} ({})", fault.cause, self.told()),
+        }
     }
 }

@@ -15,6 +15,7 @@ mod tests {
         BASE_NEED, BranchAndBound, Elimination, Graph, Solver, matrix_place, vector_place,
     };
     use prices::{Plain, Price, Ranked};
+    use refusals::Told;
     use sheets::Sheet;
     use std::process::Abort;
     use std::test::Fail;
@@ -31,9 +32,12 @@ mod tests {
         let Err(refusal) = key_in(file, &mut sheet) else {
             return Err("accepted".into());
         };
-        assert_eq!(rt; refusal.number(), number);
-        assert_eq!(rt; refusal.place(), place);
-        assert_eq!(rt; refusal.depth(), 0);
+        let told = Told {
+            number,
+            place,
+            depth: 0,
+        };
+        assert_eq!(rt; refusal.told(), told);
         assert_eq!(rt; refusal.offset(), Some(offset));
         Ok(())
     }
@@ -54,7 +58,7 @@ mod tests {
         let Err(refusal) = key_in(&[0; 4097], &mut sheet) else {
             return Err("accepted".into());
         };
-        assert_eq!(rt; refusal.number(), 15);
+        assert_eq!(rt; refusal.told().number, 15);
         assert_eq!(rt; refusal.offset(), None);
         refuses(&rt, &[0; 4096], 1, 0, 0)
     }

@@ -11,4 +11,4 @@ loop-line-preserved g c =
 pub returns : goal.returns
 returns g c =
     let k = g.P.Price in
-    sym (price_all k everything_in_memory _ _ _ c.loop-line-test.false) ∙ c.loop-line.invariant ∙ ap (λ ls. price k ls everything_in_memory) c.lines-lines.ensures
+    sym (price_all k everything_in_memory _ _ _ c.loop-line-test.false) ∙ c.loop-line.invariant ∙ ap (λ ls. price k ls everything_in_memory) c.lines-line-items.ensures.value

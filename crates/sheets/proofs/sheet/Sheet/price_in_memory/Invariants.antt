@@ -4,4 +4,4 @@ use Rattle.sheets.proofs.sheet.Sheet.price_in_memory.Given as goal
 
 abbrev pub invariant-loop-line : goal.invariant-loop-line
 invariant-loop-line g l =
-    g.P.Price.sum l.total (price g.P.Price (drop l.line-index l.lines) everything_in_memory) ≡ price g.P.Price l.lines everything_in_memory
+    g.P.Price.sum l.total (price g.P.Price (drop l.line-index l.line-items) everything_in_memory) ≡ price g.P.Price l.line-items everything_in_memory
