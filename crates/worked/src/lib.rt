@@ -133,7 +133,7 @@ mod tests {
         let Err(fault) = Elimination.solve(&graph, &mut memory, &mut picks) else {
             return Err("answered".into());
         };
-        assert_eq!(rt; fault.number(), 10);
+        assert_eq!(rt; fault.told().number, 10);
         Ok(())
     }
 }
