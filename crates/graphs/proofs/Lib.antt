@@ -3,4 +3,5 @@ pub mod Layouts
 pub mod Clamped
 pub mod Stepping
 pub mod Branching
+pub mod Chains
 pub mod Asking

@@ -1,12 +1,11 @@
-use Rattle.std.proofs.Common.{rules, tests, ap, ap₂, ◌∙◌, arith}
-use Rattle.std.specs.List.{list_any}
-use Rattle.std.proofs.lemmas.Iterator.Search.{any_from_yields_List}
+use Rattle.std.proofs.Common.{rules, tests, ◌∙◌, arith}
 use Rattle.graphs.specs.Masks.{has}
-use Rattle.graphs.specs.Runs.{run, run_yields, any_above}
+use Rattle.graphs.proofs.Chains.{any_of_run}
+use Rattle.graphs.specs.Runs.{any_above}
 use Rattle.graphs.proofs.frontier.reaches_above.Goals as goal
 
 pub returns : goal.returns
 returns c =
     let t = has c.args.mask in
-    any_from_yields_List t c.any.new.self _ c.any.result c.any.ensures.ran (run_yields (λ r. r.next) (λ r. r.end) c.after.result) (λ x b q k. search (rules, tests))
-    ∙ ap (list_any t) (ap₂ run c.after.ensures.next c.after.ensures.end) ∙ any_above t c.args.v 12 (omega (arith, c.after.ensures.next, c.after.ensures.within))
+    any_of_run (λ r. r.next) (λ r. r.end) t c.after.result c.any.new.self _ c.any.result _ _ c.after.ensures.next c.after.ensures.end c.any.ensures.ran (λ x b q k. search (rules, tests))
+    ∙ any_above t c.args.v 12 (omega (arith, c.after.ensures.next, c.after.ensures.within))
