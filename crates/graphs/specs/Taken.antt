@@ -1,4 +1,4 @@
--- Choices of present variables.
+-- Choices of present variables: facts of a graph and of picks at one moment, so that no type of a number can carry them.
 use Rattle.std.specs.Prelude.{◌≡◌, ℕ, ◌<◌, true, List}
 use Rattle.graphs.specs.declared.graph.Graph.{Graph}
 use Rattle.graphs.specs.Masks.{has}

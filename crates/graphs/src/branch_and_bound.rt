@@ -14,7 +14,7 @@ use crate::priced::Priced;
 use crate::solver::Solver;
 use prices::Price;
 
-// The best of all assignments; the picks of absent variables stay.
+// The best of all assignments; the picks of absent variables stay. The graph comes apart from its prices: here they are joined.
 fn searched<P: Price>(graph: &Graph, prices: &[P], picks: [u8; 12]) -> Best<P>
     requires { 1710 ≤ length prices.now }
     ensures { found_in result ≡ searched P.Price (model_in P.Price graph.now prices.now) (pick_of picks) }

@@ -39,7 +39,7 @@ fn swept<'s, 't, P: Price>(
     priced.sweep(edges, 0, &mut old, &mut new)
 }
 
-// The lowest price of all assignments, with one that has it, unless a frontier is too wide.
+// The lowest price of all assignments, with one that has it, unless a frontier is too wide. Here a graph and its prices are joined.
 fn eliminated<P: Price>(graph: &Graph, prices: &[P], free: &mut [P]) -> Result<Best<P>, Fault>
     requires prices { 1710 ≤ length prices.now }
     requires free { 300 ≤ length free.old }

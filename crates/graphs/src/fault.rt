@@ -14,6 +14,7 @@ pub enum Cause {
     NothingFits,
 }
 
+// A struct around the cause and no plain enum: who handles it names the cause by itself.
 #[derive(Clone, Copy, Debug, PartialEq, Eq)]
 pub struct Fault {
     pub cause: Cause,

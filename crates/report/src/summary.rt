@@ -16,6 +16,7 @@ fn print_variable(rt: &impl Print, sheet: &Sheet, variable: u8, width: Width) ->
 
 fn print_variables(rt: &impl Print, sheet: &Sheet) -> io::Result<()> {
     println!(rt; "variables:")?;
+    // By its number, which is what a sheet is asked by.
     for variable in 0..VARIABLES as u8 {
         if let Some(width) = sheet.width(variable) {
             print_variable(rt, sheet, variable, width)?;

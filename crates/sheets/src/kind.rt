@@ -21,6 +21,7 @@ pub enum Kind {
     End,
 }
 
+// The one place that has the bytes of the kinds, as records have them.
 impl TryFrom<u8> for Kind {
     type Error = SheetFault;
 

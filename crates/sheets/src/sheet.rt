@@ -7,6 +7,7 @@ pub const MAX_LINES: usize = 64;
 
 pub const VARIABLES: usize = 12;
 
+// Twelve variables and at most 64 lines, in fixed memory.
 #[derive(Drop)]
 pub struct Sheet {
     pub(crate) widths: [Option<Width>; VARIABLES],

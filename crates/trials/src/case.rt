@@ -105,7 +105,7 @@ impl<P: Sample> Case<P> {
         }
     }
 
-    // Only what the graph has is cleared: beyond the counts nothing may count as an edge.
+    // Only what the graph has is cleared, choice by choice as they are numbered: beyond the counts nothing may count as an edge.
     fn clear(&mut self, u: Variable, v: Variable) {
         for i in 0..self.shape.choices(u) {
             self.clear_row(u, v, i);
