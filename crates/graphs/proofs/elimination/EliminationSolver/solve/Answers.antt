@@ -12,21 +12,6 @@ use Rattle.graphs.proofs.elimination.EliminationSolver.solve.Goals as goal
 pub returns-in_err-best-clause-stands : goal.returns-in_err-best-clause-stands
 returns-in_err-best-clause-stands g c = front_stands c.args.memory.now _ _ c.split_at_mut-prices.ensures.front (omega (arith, c.in_ok-has_room.ensures))
 
-pub returns-in_err-best-clause-answer : goal.returns-in_err-best-clause-answer
-returns-in_err-best-clause-answer g c =
-    let k = g.P.Price in
-    let gr = c.args.graph.now in
-    let mem = c.args.memory.now in
-    let turned = subst (λ pr. SweptUnlessTurned k gr pr (Err c.in_err-best.field-0.0)) c.split_at_mut-prices.ensures.front c.in_err-best.ensures in
-    let p = err_from_is_err_and c.from_residual-in_err-best.result c.from_residual-in_err-best.ensures.1 in
-    p.1 ∙ ap Err (p.2 ∙ turned.2) ∙ answer_turned k gr (take 1710 mem) (length mem) c.in_ok-has_room.ensures turned.0 turned.1
-
-pub returns-in_err-best-clause-nothing : goal.returns-in_err-best-clause-nothing
-returns-in_err-best-clause-nothing g c =
-    let mem = c.args.memory.now in
-    let md = model_of g.P.Price c.args.graph.now mem in
-    nothing_fits g.P.Price 2010 (at_depth_zero (widest g.P.Price md)) md (length mem) _ (proper g.P.Price c.args.graph.now (take 1710 mem)) (returns-in_err-best-clause-answer g c)
-
 pub returns-in_err-price-clause-answer : goal.returns-in_err-price-clause-answer
 returns-in_err-price-clause-answer g c =
     let k = g.P.Price in

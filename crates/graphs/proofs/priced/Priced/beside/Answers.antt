@@ -7,17 +7,6 @@ use Rattle.graphs.specs.Reading.{choice_five, vector_read, entry_read}
 use Rattle.graphs.specs.Walk.{beside_in, beside_out}
 use Rattle.graphs.proofs.priced.Priced.beside.Goals as goal
 
-pub loop-u-init : goal.loop-u-init
-loop-u-init g c =
-    let s = c.args.self.now in
-    let made = c.into_iter-u-iterator.ensures.into_iter_gives in
-    let from : c.into_iter-u-iterator.result.next ≡ 0 = ap (λ r. r.next) made ∙ c.before-u-items.ensures.next in (
-      ap (λ r. r.end) made ∙ c.before-u-items.ensures.end,
-      omega (arith, from),
-      c.vector-price.ensures ∙ vector_read g.P.Price s.graph s.prices.now c.args.v c.args.i c.requires.0
-          ∙ sym (ap (λ n. beside g.P.Price (model_at g.P.Price s).entries c.args.v (members_below s.graph.present n) c.args.i (pick_of c.args.taken.now)) from),
-    )
-
 pub known-j-requires : goal.known-j-requires
 known-j-requires g c =
     let s = c.args.self.now in
@@ -26,20 +15,6 @@ known-j-requires g c =
     let within = c.requires.1 c.in-Some.u (omega (arith, step.0, step.1, inv.0)) (sym c.if-has.ensures.value) in
     let five = choice_five g.P.Price s.graph s.prices.now c.in-Some.u (pick_of c.args.taken.now c.in-Some.u) within in
     (omega arith, subst (λ n. n < 5) (sym (c.from.ensures ∙ ap (pick_of c.args.taken.now) c.number.ensures.value)) five)
-
-pub loop-u-preserved : goal.loop-u-preserved
-loop-u-preserved g c =
-    let s = c.args.self.now in
-    let step = c.in-Some.ensures.steps in
-    let inv = c.loop-u.invariant in
-    let a = pick_of c.args.taken.now in
-    let t = (model_at g.P.Price s).entries in (
-      step.3 ∙ inv.0,
-      omega (arith, step.0, step.2, inv.0),
-      inv.2 ∙ ap (λ n. beside g.P.Price t c.args.v (members_below s.graph.present n) c.args.i a) (sym step.1)
-          ∙ sym (beside_out g.P.Price t s.graph.present c.args.v c.in-Some.u c.args.i a (sym c.if-has.ensures.value))
-          ∙ ap (λ n. beside g.P.Price t c.args.v (members_below s.graph.present n) c.args.i a) (omega (arith, step.1, step.2)),
-    )
 
 pub loop-u-preserved-then-has : goal.loop-u-preserved-then-has
 loop-u-preserved-then-has g c =
@@ -65,9 +40,27 @@ loop-u-preserved-then-has g c =
           ∙ ap (λ n. beside k t c.args.v (members_below s.graph.present n) c.args.i a) more,
     )
 
-pub returns : goal.returns
-returns g c =
+pub loop-u-init : goal.loop-u-init
+loop-u-init g c =
     let s = c.args.self.now in
+    let made = c.into_iter-u-iterator.ensures.into_iter_gives in
+    let from : c.into_iter-u-iterator.result.next ≡ 0 = ap (λ r. r.next) made ∙ c.before-u-items.ensures.next in (
+      ap (λ r. r.end) made ∙ c.before-u-items.ensures.end,
+      omega (arith, from),
+      c.vector-price.ensures ∙ vector_read g.P.Price s.graph s.prices.now c.args.v c.args.i c.requires.0
+          ∙ sym (ap (λ n. beside g.P.Price (model_at g.P.Price s).entries c.args.v (members_below s.graph.present n) c.args.i (pick_of c.args.taken.now)) from),
+    )
+
+pub loop-u-preserved : goal.loop-u-preserved
+loop-u-preserved g c =
+    let s = c.args.self.now in
+    let step = c.in-Some.ensures.steps in
     let inv = c.loop-u.invariant in
-    let done = c.in-None.ensures.steps in
-    inv.2 ∙ ap (λ n. beside g.P.Price (model_at g.P.Price s).entries c.args.v (members_below s.graph.present n) c.args.i (pick_of c.args.taken.now)) (omega (arith, inv.0, inv.1, done.0))
+    let a = pick_of c.args.taken.now in
+    let t = (model_at g.P.Price s).entries in (
+      step.3 ∙ inv.0,
+      omega (arith, step.0, step.2, inv.0),
+      inv.2 ∙ ap (λ n. beside g.P.Price t c.args.v (members_below s.graph.present n) c.args.i a) (sym step.1)
+          ∙ sym (beside_out g.P.Price t s.graph.present c.args.v c.in-Some.u c.args.i a (sym c.if-has.ensures.value))
+          ∙ ap (λ n. beside g.P.Price t c.args.v (members_below s.graph.present n) c.args.i a) (omega (arith, step.1, step.2)),
+    )

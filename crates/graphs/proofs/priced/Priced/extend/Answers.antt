@@ -70,26 +70,6 @@ place_of-place-requires g c =
     ap₂ (λ a b. pick_of (set xs a b)) c.number-in-loop-i.ensures.value c.number.ensures.value ∙ pick_set xs v i long ∙ ap (λ (z : ℕ → ℕ). put z v i) lj in
     (n.narrow, set_small k s.graph s.prices.now v fr n t l c.requires.before j i low used hi (set xs at c.number.result) is)
 
-pub loop-i-init : goal.loop-i-init
-loop-i-init g c =
-    let k = g.P.Price in
-    let s = c.args.self.now in
-    let v = c.args.turn.now.variable in
-    let fr = c.args.turn.now.front in
-    let n = c.requires.next in
-    let t = prices_in k c.args.old.now.prices.now in
-    let l = picks_in c.args.old.now.picks in
-    let j = c.args.j in
-    let made = c.into_iter-i-iterator.ensures.into_iter_gives in
-    let from : c.into_iter-i-iterator.result.next ≡ 0 = ap (λ r. r.next) made ∙ c.choices-i-items.ensures.next in
-    let t2 = prices_in k c.args.new.now.prices.now in
-    let l2 = picks_in c.args.new.now.picks in (
-      ap (λ r. r.end) made ∙ c.choices-i-items.ensures.end,
-      omega (arith, from),
-      subst (λ i. KeptAt k s.graph s.prices.now (v + 1) t2 l2 (Before k s.graph s.prices.now v j i)) (sym from)
-          (turn_begins k s.graph s.prices.now v fr n t l c.requires.before j t2 l2 c.requires.after),
-    )
-
 pub loop-i-preserved : goal.loop-i-preserved
 loop-i-preserved g c =
     let k = g.P.Price in

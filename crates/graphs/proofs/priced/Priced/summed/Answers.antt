@@ -16,18 +16,6 @@ known-i-requires g c =
     let five = choice_five g.P.Price s.graph s.prices.now c.in-Some.v (pick_of c.args.picks.now c.in-Some.v) within in
     (omega arith, subst (λ n. n < 5) (sym (c.from.ensures ∙ ap (pick_of c.args.picks.now) c.number.ensures.value)) five)
 
-pub beside-requires : goal.beside-requires
-beside-requires g c =
-    let s = c.args.self.now in
-    let step = c.in-Some.ensures.steps in
-    let inv = c.loop-v.invariant in
-    let e = sym c.if-has.ensures.value in
-    let within = c.requires c.in-Some.v (omega (arith, step.0, step.1, inv.0)) e in
-    let i = c.known-i.ensures ∙ c.from.ensures ∙ ap (pick_of c.args.picks.now) c.number.ensures.value in (
-      record { variable = c.if-has.ensures.variable; present = e; within = subst (λ n. n < count_at s.graph c.in-Some.v) (sym i) within },
-      λ y l b. c.requires y (omega (arith, l, c.if-has.ensures.variable)) b,
-    )
-
 pub loop-v-preserved-then-has : goal.loop-v-preserved-then-has
 loop-v-preserved-then-has g c =
     let s = c.args.self.now in
@@ -47,20 +35,6 @@ loop-v-preserved-then-has g c =
           (inv.2 ∙ ap (λ n. sum_over k es (members_below s.graph.present n) a) (sym step.1))
           ∙ sym (ap (λ l. sum_over k es l a) (below_in s.graph.present v (sym c.if-has.ensures.value)))
           ∙ ap (λ n. sum_over k es (members_below s.graph.present n) a) more,
-    )
-
-pub loop-v-preserved : goal.loop-v-preserved
-loop-v-preserved g c =
-    let s = c.args.self.now in
-    let step = c.in-Some.ensures.steps in
-    let inv = c.loop-v.invariant in
-    let es = (model_at g.P.Price s).entries in
-    let a = pick_of c.args.picks.now in (
-      step.3 ∙ inv.0,
-      omega (arith, step.0, step.2, inv.0),
-      inv.2 ∙ ap (λ n. sum_over g.P.Price es (members_below s.graph.present n) a) (sym step.1)
-          ∙ sym (ap (λ l. sum_over g.P.Price es l a) (below_out s.graph.present c.in-Some.v (sym c.if-has.ensures.value)))
-          ∙ ap (λ n. sum_over g.P.Price es (members_below s.graph.present n) a) (omega (arith, step.1, step.2)),
     )
 
 pub returns : goal.returns
