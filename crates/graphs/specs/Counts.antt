@@ -1,4 +1,4 @@
--- HasChoice counts, from 1 to 5.
+-- Choice counts, from 1 to 5.
 use Rattle.std.specs.Prelude.{ℕ, min, max, Bool, true, ◌&&◌, List, [], ◌∷◌, nat_le, nat_lt}
 
 -- whether every count is from 1 to 5

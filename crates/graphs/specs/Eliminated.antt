@@ -96,7 +96,6 @@ module _ {P : Type 0} (k : Kind P) where
   widest_found g m es h = first_same _ (too_wide k (model_in k g m)) twelve (on_twelve _ (λ v l.
       ap₂ (λ a b. a && nat_lt 3 (count_ones b)) (sym (mem_members g.present v l)) (frontier_same (λ y. slice_index es y) (edges k (model_in k g m)) v h)))
 
--- # The first table
 -- # The answers
 -- what is found of a graph, or that it is turned away
 abbrev pub SweptUnlessTurned : {P : Type 0} → Kind P → Graph → List P → Result (Best P) Fault → Type 0

@@ -21,8 +21,8 @@ impl Graph {
         Variable::all().all(|v| !self.has(v) || usize::from(picks[v.number()]) < self.count(v))
     }
 
-    #[tactic(auto, using(crate::specs::Joining::edges_by_rule))]
     // The edges of each of the twelve variables; none where the memory has no room for a graph.
+    #[tactic(auto, using(crate::specs::Joining::edges_by_rule))]
     pub fn edges<P: Price>(&self, memory: &[P]) -> Option<[u16; 12]>
         ensures value { result ≡ edges_asked P.Price self.now memory.now }
         ensures rule { EdgesByRule P.Price (model_of P.Price self.now memory.now) }

@@ -7,7 +7,7 @@ use crate::fault::{Cause, Fault};
 use crate::places::BASE_NEED;
 use prices::Price;
 
-pub(crate) fn has_room<P>(memory: &[P]) -> Result<(), Fault>
+pub(crate) fn check_room<P>(memory: &[P]) -> Result<(), Fault>
     ensures { elim result [ Ok u ↦ 2010 ≤ length memory.now | Err f ↦ (length memory.now < 2010) × (f ≡ refused Short) ] }
 {
     if memory.len() < BASE_NEED {

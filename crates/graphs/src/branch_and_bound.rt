@@ -5,7 +5,7 @@ ghost use Rattle.graphs.specs.Holding.{found_in};
 ghost use Rattle.graphs.specs.Stored.{model_in, pick_of};
 ghost use Rattle.std.proofs.Common.{rules};
 
-use crate::base::{fitting, has_room};
+use crate::base::{fitting, check_room};
 use crate::best::Best;
 use crate::fault::Fault;
 use crate::graph::Graph;
@@ -46,7 +46,7 @@ impl<P: Price> Solver<P> for BranchAndBound {
     ghost named = { Prim.search rules };
 
     fn solve(&mut self, graph: &Graph, memory: &mut [P], picks: &mut [u8; 12]) -> Result<P, Fault> {
-        has_room(memory)?;
+        check_room(memory)?;
         let best = searched(graph, &memory[..GRAPH_PRICES], *picks);
         let price = fitting(best.price)?;
         *picks = best.picks;

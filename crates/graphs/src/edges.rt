@@ -1,4 +1,4 @@
-// Edges, found once: each variable's edges are a mask.
+// Edges: those of a variable are a mask.
 ghost use Rattle.std.specs.Prelude.{◌≡◌, ◌≢◌};
 ghost use Rattle.graphs.specs.Masks.{some_below};
 ghost use Rattle.graphs.specs.Stored.{stored, count_at, model_at};
@@ -26,6 +26,7 @@ impl<'a, P: Price> Priced<'a, P> {
         self.graph.choices(u).any(|i| self.is_row_linked(u, v, i))
     }
 
+    // By one test after the other: with `&&` the goals at its joins stayed open.
     fn is_edge(&self, u: Variable, v: Variable) -> bool
         ensures { result ≡ edge P.Price (model_at P.Price self.now) u v }
     {

@@ -8,7 +8,7 @@ ghost use Rattle.graphs.specs.Stored.{model_at, pick_of};
 ghost use Rattle.graphs.specs.Eliminated.{SweptUnlessTurned, open_none, named_within};
 ghost use Rattle.std.proofs.Common.{rules};
 
-use crate::base::{fitting, has_room};
+use crate::base::{fitting, check_room};
 use crate::best::Best;
 use crate::fault::{Cause, Fault};
 use crate::frontier::too_wide;
@@ -86,7 +86,7 @@ impl<P: Price> Solver<P> for Elimination {
     ghost named = { λ s m v d e. named_within P.Price m v d e };
 
     fn solve(&mut self, graph: &Graph, memory: &mut [P], picks: &mut [u8; 12]) -> Result<P, Fault> {
-        has_room(memory)?;
+        check_room(memory)?;
         let (prices, free) = memory.split_at_mut(GRAPH_PRICES);
         let best = eliminated(graph, prices, free)?;
         let price = fitting(best.price)?;

@@ -14,7 +14,7 @@ pub enum Cause {
     NothingFits,
 }
 
-// A struct around the cause and no plain enum: who handles it names the cause by itself.
+// A struct around its cause, as the faults of a sheet and of a file are, so that each level is handed up in one way.
 #[derive(Clone, Copy, Debug, PartialEq, Eq)]
 pub struct Fault {
     pub cause: Cause,

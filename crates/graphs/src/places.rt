@@ -39,8 +39,8 @@ pub(crate) fn entry_at(u: Variable, v: Variable, i: Choice, j: Choice) -> usize
     }
 }
 
-#[tactic(auto, using(crate::proofs::Layouts::layout_stands))]
 // Where choice i of v stands; none where there is no such variable or choice.
+#[tactic(auto, using(crate::proofs::Layouts::layout_stands))]
 pub fn vector_place(v: usize, i: usize) -> Option<usize>
     ensures place { result ≡ place_of (of_vector v i) }
     ensures layout { Layout }
@@ -48,8 +48,8 @@ pub fn vector_place(v: usize, i: usize) -> Option<usize>
     Some(vector_at(Variable::new(v)?, Choice::new(i)?))
 }
 
-#[tactic(auto, using(crate::proofs::Layouts::layout_stands))]
 // Where choice i of u with choice j of v stands; none where there are no two such variables or no such choices.
+#[tactic(auto, using(crate::proofs::Layouts::layout_stands))]
 pub fn matrix_place(u: usize, v: usize, i: usize, j: usize) -> Option<usize>
     ensures place { result ≡ place_of (of_matrix u v i j) }
     ensures layout { Layout }

@@ -36,7 +36,7 @@ impl<'a, P: Price> Priced<'a, P> {
             let mut picks = kept.picks;
             picks[turn.variable.number()] = i.number() as u8;
             let place = place_of(turn.front, turn.variable, &picks);
-            new.improve(place, price, picks);
+            new.improve(place, Best { price, picks });
         }
     }
 

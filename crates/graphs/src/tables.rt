@@ -67,15 +67,15 @@ impl<'t, P: Price> Table<'t, P> {
         self.prices[0] = P::zero();
     }
 
-    // Keeps the price and its picks at a place if the price is lower than what is kept there.
-    pub(crate) fn improve(&mut self, place: Place, price: P, picks: [u8; 12])
-        ensures prices { self.new.prices.now ≡ cond (P.Price.at_most (prices_in P.Price self.old.prices.now place) price) self.old.prices.now (slice_set self.old.prices.now place price) }
-        ensures picks { self.new.picks ≡ cond (P.Price.at_most (prices_in P.Price self.old.prices.now place) price) self.old.picks (slice_set self.old.picks place picks) }
+    // Keeps another price with its picks at a place if it is lower than what is kept there.
+    pub(crate) fn improve(&mut self, place: Place, other: Best<P>)
+        ensures prices { self.new.prices.now ≡ cond (P.Price.at_most (prices_in P.Price self.old.prices.now place) other.price) self.old.prices.now (slice_set self.old.prices.now place other.price) }
+        ensures picks { self.new.picks ≡ cond (P.Price.at_most (prices_in P.Price self.old.prices.now place) other.price) self.old.picks (slice_set self.old.picks place other.picks) }
     {
         let at = place.number();
-        if !self.prices[at].at_most(price) {
-            self.prices[at] = price;
-            self.picks[at] = picks;
+        if !self.prices[at].at_most(other.price) {
+            self.prices[at] = other.price;
+            self.picks[at] = other.picks;
         }
     }
 }

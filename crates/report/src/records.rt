@@ -4,7 +4,7 @@ use sheets::{Kind, Sheet};
 use std::io;
 
 // Prints an accepted record; `number` is that of the next line. Answers the number after it: it goes along with the
-// records, since not every record is a line.
+// records, since not every record is a line (handed along as `enumerate`, a goal of it stayed open).
 fn print_accepted(rt: &impl Print, sheet: &Sheet, part: Part, number: usize) -> io::Result<usize> {
     if let (Ok(Kind::Declare), &[_, variable, ..]) = (Kind::of(part.bytes), part.bytes) {
         if let Some(width) = sheet.width(variable) {

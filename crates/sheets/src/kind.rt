@@ -92,5 +92,5 @@ impl Kind {
 pub fn record_length(kind: u8) -> Option<usize>
     ensures { result ≡ length_of kind }
 {
-    Some(Kind::try_from(kind).ok()?.length())
+    Kind::try_from(kind).ok().map(Kind::length)
 }

@@ -15,7 +15,7 @@ pub struct Declaration {
 }
 
 // One line, with the bytes of its record by their letters in the table of records: it writes d, reads s, a and b,
-// and goes to line t; w is its weight.
+// and goes to line t; w is its weight. By default a line is an end, which is what an empty place of a sheet holds.
 #[derive(Clone, Copy, Debug, Default, PartialEq, Eq)]
 pub enum Line {
     Input { d: u8, port: u8, w: u8 },

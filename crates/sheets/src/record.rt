@@ -1,8 +1,5 @@
 // Records taken apart: what a record says, or why it is refused.
-ghost use Rattle.std.specs.Prelude.{◌≡◌, ℕ, ◌+◌, ◌<◌, ◌^◌, ◌≤◌, List, Option, length, IfOk, Ok, slice_index};
-ghost use Rattle.sheets.specs.declared.field.Field.{Field};
-ghost use Rattle.sheets.specs.declared.fault.Cause.{Cause};
-ghost use Rattle.sheets.specs.declared.line.Width.{Width};
+ghost use Rattle.std.specs.Prelude.{◌≡◌, ◌+◌, ◌<◌, ◌≤◌, length, IfOk, Ok, slice_index};
 ghost use Rattle.sheets.specs.Kinds.{byte_of};
 ghost use Rattle.sheets.specs.Table.{fields_of, width_coded};
 ghost use Rattle.sheets.specs.Records.{Test, TestsBy, width_of, first_fault, unless, tested, declaration_of, line_of};
@@ -75,7 +72,7 @@ impl<'a> Record<'a> {
     }
 
     // The declaration that the record makes, or why it is refused.
-    pub fn declaration(&self) -> Result<Declaration, SheetFault>
+    pub(crate) fn declaration(&self) -> Result<Declaration, SheetFault>
         ensures value { result ≡ declaration_of self.now.widths.now self.now.bytes.now }
         ensures low { IfOk result (λ d. d.variable ≤ 11) }
     {
@@ -91,7 +88,7 @@ impl<'a> Record<'a> {
     }
 
     // The line that the record stands for, or why it is refused.
-    pub fn line(&self) -> Result<Line, SheetFault>
+    pub(crate) fn line(&self) -> Result<Line, SheetFault>
         ensures { result ≡ line_of self.now.widths.now self.now.bytes.now }
     {
         let kind = Kind::of(self.bytes)?;

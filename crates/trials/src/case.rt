@@ -66,7 +66,7 @@ fn draw_prices<P: Sample>(chance: &mut Chance) -> [P; NEED] {
 
 impl<P: Sample> Case<P> {
     // No variables and no prices, to be drawn.
-    // Made in `main` alone: in a function for any kind it did not prove that so many prices fit the address space.
+    // Made in `main` for each kind, and drawn anew: that so many prices fit the address space is not to be shown for any kind.
     pub(crate) fn new() -> Case<P> {
         Case {
             shape: Shape::default(),

@@ -23,10 +23,9 @@ struct Tallies {
 fn try_graph<P: Sample>(case: &Case<P>, tallies: &mut Tallies) {
     let always = case.answer();
     // A graph that is turned away is not looked at further.
-    let narrow = match case.too_wide_after() {
-        Some(variable) => Err(turned_away(variable)),
-        None => always,
-    };
+    let narrow = case
+        .too_wide_after()
+        .map_or(always, |variable| Err(turned_away(variable)));
     try_solver(
         &mut BranchAndBound,
         case,

@@ -56,11 +56,21 @@ impl Tally {
     pub(crate) fn count<P>(&mut self, answer: &Result<P, Fault>) {
         let outcome = match answer {
             Ok(_) => &mut self.answered,
-            Err(fault) => match fault.cause {
-                Cause::Short => &mut self.short,
-                Cause::TurnedAway { .. } => &mut self.turned_away,
-                Cause::NothingFits => &mut self.nothing_fits,
-            },
+            Err(
+                Fault {
+                    cause: Cause::Short,
+                },
+            ) => &mut self.short,
+            Err(
+                Fault {
+                    cause: Cause::TurnedAway { .. },
+                },
+            ) => &mut self.turned_away,
+            Err(
+                Fault {
+                    cause: Cause::NothingFits,
+                },
+            ) => &mut self.nothing_fits,
         };
         outcome.add();
     }

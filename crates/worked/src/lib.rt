@@ -90,13 +90,10 @@ mod tests {
 
     // Writes a price where an entry stands.
     fn put(memory: &mut [Plain], place: Option<usize>, value: u32) -> Result<(), Fail> {
-        match place {
-            Some(place) if place < memory.len() => {
-                memory[place] = Plain::new(value);
-                Ok(())
-            }
-            _ => Err("no such place".into()),
-        }
+        let place = place.ok_or("no such place")?;
+        let price = memory.get_mut(place).ok_or("no such place")?;
+        *price = Plain::new(value);
+        Ok(())
     }
 
     // v0 costs 0 or 4, v1 costs 1; their matrix has the rows 7 1 and 2 0.

@@ -1,7 +1,6 @@
 use Rattle.std.proofs.Common.{rules, tests, ◌∙◌, arith}
 use Rattle.graphs.specs.Masks.{has}
-use Rattle.graphs.proofs.Chains.{any_of_run}
-use Rattle.graphs.specs.Runs.{any_above}
+use Rattle.graphs.proofs.Chains.{any_of_run, any_above}
 use Rattle.graphs.proofs.frontier.reaches_above.Goals as goal
 
 pub returns : goal.returns

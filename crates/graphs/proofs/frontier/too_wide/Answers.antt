@@ -5,7 +5,7 @@ use Rattle.std.specs.Option.{option_map}
 use Rattle.std.proofs.lemmas.Iterator.Search.{find_from_yields_List}
 use Rattle.graphs.specs.Masks.{has, twelve}
 use Rattle.graphs.specs.Frontier.{frontier_by}
-use Rattle.graphs.specs.Runs.{run, run_yields}
+use Rattle.graphs.proofs.Chains.{run, run_yields}
 use Rattle.graphs.proofs.frontier.too_wide.Goals as goal
 
 as_it_is : (o : Option ℕ) → o ≡ option_map (λ x. x) o

@@ -8,16 +8,16 @@ use Rattle.graphs.specs.Reading.{proper}
 use Rattle.graphs.proofs.branch_and_bound.BranchAndBoundSolver.solve.Goals as goal
 
 pub slice_bounds-searched-end-2 : goal.slice_bounds-searched-end-2
-slice_bounds-searched-end-2 g c = let h : 1710 ≤ length c.args.memory.now = omega (arith, c.in_ok-has_room.ensures) in search rules
+slice_bounds-searched-end-2 g c = let h : 1710 ≤ length c.args.memory.now = omega (arith, c.in_ok-check_room.ensures) in search rules
 
 pub searched-best-requires : goal.searched-best-requires
-searched-best-requires g c = simp length-take (omega (arith, c.in_ok-has_room.ensures))
+searched-best-requires g c = simp length-take (omega (arith, c.in_ok-check_room.ensures))
 
 pub returns-in_err-price-clause-answer : goal.returns-in_err-price-clause-answer
 returns-in_err-price-clause-answer g c =
     let mem = c.args.memory.now in
     let p = err_from_is_err_and c.from_residual-in_err-price.result c.from_residual-in_err-price.ensures.1 in
-    p.1 ∙ ap Err p.2 ∙ sym c.in_err-price.was ∙ c.fitting.ensures ∙ sym (answers g.P.Price c.args.graph.now mem c.args.picks.now c.searched-best.result c.searched-best.ensures (length mem) c.in_ok-has_room.ensures)
+    p.1 ∙ ap Err p.2 ∙ sym c.in_err-price.was ∙ c.fitting.ensures ∙ sym (answers g.P.Price c.args.graph.now mem c.args.picks.now c.searched-best.result c.searched-best.ensures (length mem) c.in_ok-check_room.ensures)
 
 pub returns-in_err-price-clause-nothing : goal.returns-in_err-price-clause-nothing
 returns-in_err-price-clause-nothing g c =
@@ -28,7 +28,7 @@ returns-in_err-price-clause-nothing g c =
 pub returns-clause-answer : goal.returns-clause-answer
 returns-clause-answer g c =
     let mem = c.args.memory.now in
-    sym c.in_ok-price.was ∙ c.fitting.ensures ∙ sym (answers g.P.Price c.args.graph.now mem c.args.picks.now c.searched-best.result c.searched-best.ensures (length mem) c.in_ok-has_room.ensures)
+    sym c.in_ok-price.was ∙ c.fitting.ensures ∙ sym (answers g.P.Price c.args.graph.now mem c.args.picks.now c.searched-best.result c.searched-best.ensures (length mem) c.in_ok-check_room.ensures)
 
 pub returns-clause-picked : goal.returns-clause-picked
 returns-clause-picked g c =

@@ -10,7 +10,7 @@ use Rattle.graphs.specs.Reading.{proper}
 use Rattle.graphs.proofs.elimination.EliminationSolver.solve.Goals as goal
 
 pub returns-in_err-best-clause-stands : goal.returns-in_err-best-clause-stands
-returns-in_err-best-clause-stands g c = front_stands c.args.memory.now _ _ c.split_at_mut-prices.ensures.front (omega (arith, c.in_ok-has_room.ensures))
+returns-in_err-best-clause-stands g c = front_stands c.args.memory.now _ _ c.split_at_mut-prices.ensures.front (omega (arith, c.in_ok-check_room.ensures))
 
 pub returns-in_err-price-clause-answer : goal.returns-in_err-price-clause-answer
 returns-in_err-price-clause-answer g c =
@@ -20,10 +20,10 @@ returns-in_err-price-clause-answer g c =
     let best = c.in_ok-best.best in
     let found = subst (λ pr. SweptUnlessTurned k gr pr (Ok best)) c.split_at_mut-prices.ensures.front c.in_ok-best.ensures in
     let p = err_from_is_err_and c.from_residual-in_err-price.result c.from_residual-in_err-price.ensures.1 in
-    p.1 ∙ ap Err p.2 ∙ sym c.in_err-price.was ∙ c.fitting.ensures ∙ sym (answer_swept k gr (take 1710 mem) (length mem) c.in_ok-has_room.ensures found.0 best.price (pick_of best.picks) found.1)
+    p.1 ∙ ap Err p.2 ∙ sym c.in_err-price.was ∙ c.fitting.ensures ∙ sym (answer_swept k gr (take 1710 mem) (length mem) c.in_ok-check_room.ensures found.0 best.price (pick_of best.picks) found.1)
 
 pub returns-in_err-price-clause-stands : goal.returns-in_err-price-clause-stands
-returns-in_err-price-clause-stands g c = front_stands c.args.memory.now _ _ c.split_at_mut-prices.ensures.front (omega (arith, c.in_ok-has_room.ensures))
+returns-in_err-price-clause-stands g c = front_stands c.args.memory.now _ _ c.split_at_mut-prices.ensures.front (omega (arith, c.in_ok-check_room.ensures))
 
 pub returns-in_err-price-clause-nothing : goal.returns-in_err-price-clause-nothing
 returns-in_err-price-clause-nothing g c =
@@ -38,10 +38,10 @@ returns-clause-answer g c =
     let mem = c.args.memory.now in
     let best = c.in_ok-best.best in
     let found = subst (λ pr. SweptUnlessTurned k gr pr (Ok best)) c.split_at_mut-prices.ensures.front c.in_ok-best.ensures in
-    sym c.in_ok-price.was ∙ c.fitting.ensures ∙ sym (answer_swept k gr (take 1710 mem) (length mem) c.in_ok-has_room.ensures found.0 best.price (pick_of best.picks) found.1)
+    sym c.in_ok-price.was ∙ c.fitting.ensures ∙ sym (answer_swept k gr (take 1710 mem) (length mem) c.in_ok-check_room.ensures found.0 best.price (pick_of best.picks) found.1)
 
 pub returns-clause-stands : goal.returns-clause-stands
-returns-clause-stands g c = front_stands c.args.memory.now _ _ c.split_at_mut-prices.ensures.front (omega (arith, c.in_ok-has_room.ensures))
+returns-clause-stands g c = front_stands c.args.memory.now _ _ c.split_at_mut-prices.ensures.front (omega (arith, c.in_ok-check_room.ensures))
 
 pub returns-clause-picked : goal.returns-clause-picked
 returns-clause-picked g c =

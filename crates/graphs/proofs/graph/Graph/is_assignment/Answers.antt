@@ -3,7 +3,7 @@ use Rattle.std.specs.List.{list_all}
 use Rattle.std.proofs.lemmas.Iterator.Search.{all_from_yields_List}
 use Rattle.graphs.specs.Masks.{has, twelve}
 use Rattle.graphs.specs.Asked.{has_pick}
-use Rattle.graphs.specs.Runs.{run, run_yields}
+use Rattle.graphs.proofs.Chains.{run, run_yields}
 use Rattle.graphs.proofs.Asking.{all_kept}
 use Rattle.graphs.proofs.graph.Graph.is_assignment.Goals as goal
 

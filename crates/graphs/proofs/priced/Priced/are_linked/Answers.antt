@@ -1,6 +1,5 @@
 use Rattle.std.proofs.Common.{ℕ, rules, tests, ◌∙◌}
-use Rattle.graphs.proofs.Chains.{any_of_run}
-use Rattle.graphs.specs.Runs.{any_run}
+use Rattle.graphs.proofs.Chains.{any_of_run, any_run}
 use Rattle.graphs.specs.Masks.{some_below}
 use Rattle.graphs.specs.Stored.{stored, count_at}
 use Rattle.graphs.specs.Edges.{priced_in}
