@@ -1,13 +1,12 @@
 -- What branch and bound found, as a solver's answer.
-use Rattle.std.proofs.Common.{◌≡◌, ℕ, ◌≤◌, false, List, [], take, None, sym, ap, ◌∙◌, subst, ap₂}
+use Rattle.std.proofs.Common.{◌≡◌, ℕ, ◌≤◌, false, List, take, None, sym, ap, ◌∙◌, subst}
 use Rattle.prices.specs.declared.price.Price.{Ghosts as Kind}
 use Rattle.graphs.specs.declared.graph.Graph.{Graph}
 use Rattle.graphs.specs.declared.best.Best.{Best}
-use Rattle.graphs.specs.Masks.{members_from, members_below}
 use Rattle.graphs.specs.Model.{lowest, Lowest}
-use Rattle.graphs.specs.Search.{search, searched}
+use Rattle.graphs.specs.Search.{searched}
 use Rattle.graphs.specs.Holding.{found_in}
-use Rattle.graphs.specs.Stored.{model_in, model_of, pick_of}
+use Rattle.graphs.specs.Stored.{model_of, pick_of}
 use Rattle.graphs.specs.Outcome.{outcome, fitted, Chosen}
 use Rattle.graphs.specs.Bounded.{searched_lowest, searched_found, searched_stays}
 use Rattle.graphs.specs.Reading.{proper}
@@ -26,9 +25,3 @@ module _ {P : Type 0} (k : Kind P) (g : Graph) (m : List P) (xs : List ℕ) (b :
         (searched_found k (model_of k g m) (proper k g (take 1710 m)) (pick_of xs) (ap (λ h. k.at_most k.greatest h.price) (sym is) ∙ d));
     others = λ y out. ap (λ h. h.choices y) is ∙ searched_stays k (model_of k g m) (proper k g (take 1710 m)) (pick_of xs) y out;
   }
-
--- the start of the search
-pub begins : {P : Type 0} (k : Kind P) (g : Graph) (m : List P) (xs : List ℕ) (z t : P) (b : Best P) → z ≡ k.least → t ≡ k.greatest →
-    found_in b ≡ search k (model_in k g m) (members_from g.present 0) (members_below g.present 0) (pick_of xs) z (record { price = t; choices = pick_of xs }) →
-    found_in b ≡ searched k (model_in k g m) (pick_of xs)
-begins k g m xs z t b ez et h = h ∙ ap₂ (λ y s. search k (model_in k g m) (members_from g.present 0) [] (pick_of xs) y (record { price = s; choices = pick_of xs })) ez et

@@ -1,5 +1,5 @@
 -- What a chain over a run of numbers gives.
-use Rattle.std.specs.Prelude.{◌≡◌, ℕ, zero, suc, ◌+◌, ◌-◌, ◌*◌, ◌%◌, ◌^◌, ◌<◌, ◌≤◌, Bool, true, false, cond, ◌&&◌, ◌||◌, List, [], ◌∷◌, ◌++◌, Some, None, Option, filter, length, nat_lt, bit_or, refl}
+use Rattle.std.specs.Prelude.{◌≡◌, ℕ, zero, suc, ◌+◌, ◌-◌, ◌^◌, ◌<◌, ◌≤◌, Bool, true, false, cond, ◌&&◌, ◌||◌, List, [], ◌∷◌, ◌++◌, Option, filter, length, nat_lt, refl}
 use Rattle.std.specs.Fn.{Called}
 use Rattle.std.specs.Iterator.{YieldsThen}
 use Rattle.std.specs.List.{FoldsTo, fold, list_any}
@@ -13,7 +13,7 @@ use Rattle.std.proofs.lemmas.List.Elements.{filter-append}
 use Rattle.std.proofs.lemmas.List.Folds.{list_any-append}
 use Rattle.std.proofs.lemmas.List.Sums.{fold-append}
 use denote.Param.Members.{Mut}
-use Rattle.graphs.specs.Masks.{up_from, mask_by, some_below}
+use Rattle.graphs.specs.Masks.{up_from, mask_by, some_below, with_member}
 use Rattle.graphs.specs.Bitwise.{by_set, by_skip}
 use Rattle.graphs.specs.Runs.{Steps}
 use Rattle.graphs.specs.Twelve.{some_none}
@@ -74,10 +74,6 @@ pub any_of_run : {S F : Type 0} {g : Mut F (ℕ × Unit {0}) Bool} (next end : S
 any_of_run next end t s u f r m n em en ran closure = any_from_yields_List t u f r ran (run_yields next end s) closure ∙ ap (list_any t) (ap₂ run em en)
 
 -- # A mask collected from a run
--- a mask with u in it too
-abbrev pub with_member : ℕ → ℕ → ℕ
-with_member m u = bit_or m ((1 * 2 ^ u) % 2 ^ 16)
-
 last_member : (t : ℕ → Bool) (m n : ℕ) → fold with_member m (filter t (n ∷ [])) ≡ cond (t n) (with_member m n) m
 last_member t m n = go (t n)
   where

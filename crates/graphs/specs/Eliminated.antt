@@ -10,7 +10,7 @@ use Rattle.graphs.specs.declared.best.Best.{Best}
 use Rattle.graphs.specs.declared.fault.Fault.{Fault}
 use Rattle.graphs.specs.declared.fault.Cause.TheVariants.{TurnedAway}
 use Rattle.graphs.specs.Masks.{has, mem, twelve, up_from}
-use Rattle.graphs.specs.Model.{Model, lowest}
+use Rattle.graphs.specs.Model.{Model}
 use Rattle.graphs.specs.Edges.{edges, EdgesOf}
 use Rattle.graphs.specs.Frontier.{frontier_by, too_wide, widest, at_depth_zero}
 use Rattle.graphs.specs.Kept.{Narrow, Swept}
@@ -105,9 +105,6 @@ SweptUnlessTurned k g pr (Err f) = (v : ℕ) × (Some v ≡ widest k (model_in k
 module _ {P : Type 0} (k : Kind P) (g : Graph) (pr : List P) (len : ℕ) (long : 2010 ≤ len) where
   abbrev md : Model P
   md = model_in k g pr
-
-  pub answer_turned : (x : ℕ) → Some x ≡ widest k md → Err (refused (TurnedAway x 0)) ≡ outcome k 2010 (at_depth_zero (widest k md)) md len
-  answer_turned x e = sym (outcome_long k 2010 (at_depth_zero (widest k md)) md len long ∙ ap (λ o. settled k (at_depth_zero o) (lowest k md)) (sym e))
 
   pub answer_swept : None ≡ widest k md → (p : P) (a : ℕ → ℕ) → Swept k g pr p a → outcome k 2010 (at_depth_zero (widest k md)) md len ≡ fitted k p
   answer_swept none p a s = outcome_long k 2010 (at_depth_zero (widest k md)) md len long ∙ ap₂ (λ o z. settled k (at_depth_zero o) z) (sym none) (sym (swept_lowest k g pr p a s))

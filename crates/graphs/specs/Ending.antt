@@ -1,10 +1,10 @@
 -- The end of the sweep, and what it answers.
-use Rattle.std.specs.Prelude.{◌≡◌, ℕ, zero, suc, ◌+◌, ◌<◌, ◌≤◌, true, false, cond, ◌&&◌, ltb, ◌⊎◌, List, [], ◌∷◌, ◌++◌, take, length, filter, ◌≢◌, count_ones, nat_lt, slice_index, refl}
+use Rattle.std.specs.Prelude.{◌≡◌, ℕ, zero, suc, ◌+◌, ◌<◌, ◌≤◌, true, false, cond, ◌&&◌, ltb, ◌⊎◌, List, [], ◌∷◌, ◌++◌, take, length, filter, count_ones, nat_lt, slice_index, refl}
 use Rattle.std.proofs.Common.{sym, ap, ap₂, ◌∙◌, subst, inl, inr, ⊎_elim, append-nil, arith, length-take}
 use Rattle.std.proofs.Math.Seq.{take-append_seam}
 use Rattle.std.specs.List.{AllByRecursion}
 use Rattle.std.proofs.ByRecursion.{All-weaker}
-use Rattle.std.proofs.lemmas.Bool.{both_ways, cond-true, cond-false, cases_eq, cases_lt, cases_Bool, lt-ltb, le-ltb, ltb-false}
+use Rattle.std.proofs.lemmas.Bool.{both_ways, cond-true, cond-false, cases_lt, cases_Bool, lt-ltb, le-ltb, ltb-false}
 use Rattle.prices.specs.declared.price.Price.{Ghosts as Kind}
 use Rattle.graphs.specs.declared.graph.Graph.{Graph}
 use Rattle.graphs.specs.Masks.{has, members, members_from, members_below}
@@ -111,13 +111,6 @@ module _ {P : Type 0} (k : Kind P) (g : Graph) (pr : List P) (p : P) (xs chosen 
         (λ l. cond-false (nat_lt y 12) _ _ (le-ltb y 12 l))
         (cases_lt y 12);
   }
-
--- the table that the sweep starts with
-pub begun_table : {P : Type 0} (k : Kind P) (g : Graph) (pr : List P) (t : ℕ → P) (l : ℕ → ℕ → ℕ) → t 0 ≡ k.least → ((c : ℕ) → c < 125 → (c ≢ 0) → t c ≡ k.greatest) → KeptAt k g pr 0 t l Every
-begun_table k g pr t l e h = record {
-  met = λ c b. ⊎_elim (λ q. inr (record { valid = tt; sum = ap t q ∙ e; place = sym q })) (λ ne. inl (h c b ne)) (cases_eq c 0);
-  covers = λ b _ _. subst (λ z. k.at_most z k.least ≡ true) (sym e) (k.laws.least k.least);
-}
 
 -- the graph's prices stand whatever lies past them
 pub front_stands : {P : Type 0} (m front rest : List P) → front ≡ take 1710 m → 1710 ≤ length m → take 1710 (front ++ rest) ≡ take 1710 m

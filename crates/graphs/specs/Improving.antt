@@ -97,9 +97,6 @@ module _ {P : Type 0} (k : Kind P) (g : Model P) where
       Kept k g done later t l Q → Kept k g done later t l R
   fewer done later t l Q R f h = record { met = h.met; covers = λ b v r. h.covers b v (f b v r) }
 
-  pub none_kept : (done later : List ℕ) (t : ℕ → P) (l : ℕ → ℕ → ℕ) → ((c : ℕ) → c < 125 → t c ≡ k.greatest) → Kept k g done later t l (λ _. ⊥)
-  none_kept done later t l h = record { met = λ c b. inl (h c b); covers = λ b v z. absurd z }
-
   -- the variable x at choice i beside the assignment a that is kept at j
   module _ (x : ℕ) (xs done : List ℕ) (t : ℕ → P) (l : ℕ → ℕ → ℕ) (small : (y : ℕ) → g.count y ≤ 5) (new : AllByRecursion (λ y. (y ≢ x)) done)
       (old : Kept k g done (x ∷ xs) t l (λ _. Unit {0})) (j i : ℕ) (m : Met k g done (x ∷ xs) (t j) j (l j)) (hi : i < g.count x) where

@@ -1,5 +1,5 @@
 -- Sets of variables as masks over the twelve.
-use Rattle.std.specs.Prelude.{ℕ, zero, suc, ◌+◌, ◌/◌, ◌%◌, ◌^◌, Bool, false, cond, ◌||◌, List, [], ◌∷◌, drop, filter, ◌==◌}
+use Rattle.std.specs.Prelude.{ℕ, zero, suc, ◌+◌, ◌*◌, ◌/◌, ◌%◌, ◌^◌, Bool, false, cond, ◌||◌, List, [], ◌∷◌, drop, filter, bit_or, ◌==◌}
 
 abbrev pub has : ℕ → ℕ → Bool
 has m v = m / 2 ^ v % 2 == 1
@@ -42,3 +42,7 @@ some_below (suc n) t = t n || some_below n t
 abbrev pub mem : ℕ → List ℕ → Bool
 mem x [] = false
 mem x (y ∷ ys) = x == y || mem x ys
+
+-- a mask with u in it too
+abbrev pub with_member : ℕ → ℕ → ℕ
+with_member m u = bit_or m ((1 * 2 ^ u) % 2 ^ 16)

@@ -82,10 +82,6 @@ module _ {P : Type 0} (k : Kind P) (g : Graph) (pr : List P) (v fr : ℕ) (n : N
   back : (t2 : ℕ → P) (l2 : ℕ → ℕ → ℕ) (Q : (ℕ → ℕ) → Type 0) → Kept k md (v ∷ done) xs t2 l2 Q → KeptAt k g pr (v + 1) t2 l2 Q
   back t2 l2 Q h = subst (λ d. Kept k md d xs t2 l2 Q) (sym is_done) h
 
-  -- nothing of the next table counts yet at choice 0, and all do after the last one
-  pub turn_begins : (j : ℕ) (t2 : ℕ → P) (l2 : ℕ → ℕ → ℕ) → KeptAt k g pr (v + 1) t2 l2 (Below k g pr v j) → KeptAt k g pr (v + 1) t2 l2 (Before k g pr v j 0)
-  turn_begins j t2 l2 h = fewer k md _ xs t2 l2 (Below k g pr v j) (Before k g pr v j 0) (λ b _ r. ⊎_elim (λ x. x) (λ x. let z : b v < 0 = x.1 in absurd (omega arith)) r) h
-
   pub turn_ends : (j i : ℕ) (t2 : ℕ → P) (l2 : ℕ → ℕ → ℕ) → i ≡ (model_in k g pr).count v → KeptAt k g pr (v + 1) t2 l2 (Before k g pr v j i) → KeptAt k g pr (v + 1) t2 l2 (Below k g pr v (j + 1))
   turn_ends j i t2 l2 e h = back t2 l2 _ (fewer k md (v ∷ done) xs t2 l2 (Before k g pr v j i) (Below k g pr v (j + 1))
       (λ b ok r. ⊎_elim (λ lt. inl lt) (λ ge. let z : b v < (model_in k g pr).count v = ok.0 in inr (omega arith, omega arith)) (cases_lt (number_of (front_at k g pr v) b) j))

@@ -5,7 +5,7 @@ ghost use Rattle.graphs.specs.Holding.{found_in};
 ghost use Rattle.graphs.specs.Stored.{model_in, pick_of};
 ghost use Rattle.std.proofs.Common.{rules};
 
-use crate::base::{fitting, check_room};
+use crate::base::{check_room, fitting};
 use crate::best::Best;
 use crate::fault::Fault;
 use crate::graph::Graph;

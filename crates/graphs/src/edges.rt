@@ -5,6 +5,7 @@ ghost use Rattle.graphs.specs.Stored.{stored, count_at, model_at};
 ghost use Rattle.graphs.specs.Edges.{priced_in, linked_in, edge, edges, EdgesOf};
 
 use crate::index::{Choice, Variable};
+use crate::masks::with_member;
 use crate::priced::Priced;
 use prices::Price;
 
@@ -48,7 +49,7 @@ impl<'a, P: Price> Priced<'a, P> {
     {
         Variable::all()
             .filter(|u| self.is_edge(v, *u))
-            .fold(0, |mask, u| mask | 1 << u.number())
+            .fold(0, with_member)
     }
 
     // The edges of all twelve variables.

@@ -8,7 +8,7 @@ ghost use Rattle.graphs.specs.Stored.{model_at, pick_of};
 ghost use Rattle.graphs.specs.Eliminated.{SweptUnlessTurned, open_none, named_within};
 ghost use Rattle.std.proofs.Common.{rules};
 
-use crate::base::{fitting, check_room};
+use crate::base::{check_room, fitting};
 use crate::best::Best;
 use crate::fault::{Cause, Fault};
 use crate::frontier::too_wide;

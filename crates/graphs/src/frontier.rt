@@ -6,7 +6,7 @@ ghost use Rattle.graphs.specs.Frontier.{reaches_above, frontier_by};
 
 use crate::graph::Graph;
 use crate::index::Variable;
-use crate::masks::holds;
+use crate::masks::{holds, with_member};
 
 fn reaches_above(mask: u16, v: Variable) -> bool
     ensures { result ≡ reaches_above mask v }
@@ -20,7 +20,7 @@ pub(crate) fn frontier(edges: &[u16; 12], v: Variable) -> u16
 {
     v.through()
         .filter(|u| reaches_above(edges[u.number()], v))
-        .fold(0, |mask, u| mask | 1 << u.number())
+        .fold(0, with_member)
 }
 
 // Whether v is present and the frontier after it has more than 3 variables.

@@ -1,6 +1,6 @@
 // Sets of variables, as masks over the twelve.
 ghost use Rattle.std.specs.Prelude.{◌≡◌, ◌<◌};
-ghost use Rattle.graphs.specs.Masks.{has};
+ghost use Rattle.graphs.specs.Masks.{has, with_member};
 
 use crate::index::Variable;
 
@@ -9,4 +9,10 @@ pub(crate) fn holds(mask: u16, v: Variable) -> bool
     ensures variable { v < 12 }
 {
     (mask >> v.number()) & 1 == 1
+}
+
+pub(crate) fn with_member(mask: u16, v: Variable) -> u16
+    ensures { result ≡ with_member mask v }
+{
+    mask | 1 << v.number()
 }

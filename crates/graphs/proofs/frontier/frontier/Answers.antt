@@ -3,7 +3,8 @@ use Rattle.std.specs.List.{fold}
 use Rattle.std.proofs.lemmas.Bool.{le-leb}
 use Rattle.std.proofs.lemmas.Iterator.Consumers.{YieldsList-from_filter, fold_from_yields_List}
 use Rattle.graphs.specs.Frontier.{reaches_above}
-use Rattle.graphs.proofs.Chains.{run, run_yields, with_member, mask_of_run, mask_same}
+use Rattle.graphs.specs.Masks.{with_member}
+use Rattle.graphs.proofs.Chains.{run, run_yields, mask_of_run, mask_same}
 use Rattle.graphs.specs.Fronts.{frontier_by_lem}
 use Rattle.graphs.proofs.frontier.frontier.Goals as goal
 

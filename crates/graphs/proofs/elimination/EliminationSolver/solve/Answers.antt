@@ -3,7 +3,7 @@ use Rattle.std.proofs.lemmas.Result.{err_from_is_err_and}
 use Rattle.graphs.specs.Frontier.{widest, at_depth_zero}
 use Rattle.graphs.specs.Outcome.{Chosen}
 use Rattle.graphs.specs.Stored.{model_of, pick_of}
-use Rattle.graphs.specs.Eliminated.{SweptUnlessTurned, answer_turned, answer_swept}
+use Rattle.graphs.specs.Eliminated.{SweptUnlessTurned, answer_swept}
 use Rattle.graphs.specs.Ending.{swept_found, assigned, front_stands}
 use Rattle.graphs.specs.Outcomes.{fitted_ok, nothing_fits}
 use Rattle.graphs.specs.Reading.{proper}

@@ -1,7 +1,8 @@
 use Rattle.std.proofs.Common.{rules, tests, filter, ap, ap₂, ◌∙◌, arith}
 use Rattle.std.proofs.lemmas.Iterator.Consumers.{YieldsList-from_filter, fold_from_yields_List}
 use Rattle.std.specs.List.{fold}
-use Rattle.graphs.proofs.Chains.{run, run_yields, with_member, mask_of_run}
+use Rattle.graphs.specs.Masks.{with_member}
+use Rattle.graphs.proofs.Chains.{run, run_yields, mask_of_run}
 use Rattle.graphs.specs.Edges.{edge, edges}
 use Rattle.graphs.specs.Stored.{model_at}
 use Rattle.graphs.proofs.priced.Priced.edges_of.Goals as goal

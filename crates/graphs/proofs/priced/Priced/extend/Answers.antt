@@ -5,7 +5,7 @@ use Rattle.graphs.specs.Stored.{model_at, pick_of}
 use Rattle.graphs.specs.Kept.{prices_in, picks_in, KeptAt, Before}
 use Rattle.graphs.specs.Reading.{count_read}
 use Rattle.graphs.specs.Walk.{pick_set}
-use Rattle.graphs.specs.Turning.{turn_begins, turn_ends, turn_skips, turn_more, picks_taken, set_small, improves}
+use Rattle.graphs.specs.Turning.{turn_ends, turn_skips, turn_more, picks_taken, set_small, improves}
 use Rattle.graphs.proofs.priced.Priced.extend.Goals as goal
 
 pub returns-then-at_most : goal.returns-then-at_most

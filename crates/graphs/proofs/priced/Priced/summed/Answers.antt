@@ -1,10 +1,10 @@
 use Rattle.std.proofs.Common.{◌≡◌, ◌+◌, ◌<◌, sym, ap, ◌∙◌, ap₂, subst, arith}
 use Rattle.graphs.specs.Masks.{members_below}
 use Rattle.graphs.specs.Model.{beside, sum_over}
-use Rattle.graphs.specs.Stored.{count_at, model_at, pick_of}
+use Rattle.graphs.specs.Stored.{model_at, pick_of}
 use Rattle.graphs.specs.Ending.{sum_below}
 use Rattle.graphs.specs.Reading.{choice_five}
-use Rattle.graphs.specs.Walk.{below_in, below_out}
+use Rattle.graphs.specs.Walk.{below_in}
 use Rattle.graphs.proofs.priced.Priced.summed.Goals as goal
 
 pub known-i-requires : goal.known-i-requires
