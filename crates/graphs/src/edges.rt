@@ -8,6 +8,7 @@ use crate::index::{Choice, Variable};
 use crate::masks::with_member;
 use crate::priced::Priced;
 use prices::Price;
+use std::array;
 
 impl<'a, P: Price> Priced<'a, P> {
     // Whether choice i of u with some choice of v has a price.
@@ -56,10 +57,6 @@ impl<'a, P: Price> Priced<'a, P> {
     pub(crate) fn edge_masks(&self) -> [u16; 12]
         ensures { EdgesOf P.Price (model_at P.Price self.now) result }
     {
-        let mut masks = [0; 12];
-        for v in Variable::all() {
-            masks[v.number()] = self.edges_of(v);
-        }
-        masks
+        array::from_fn(|v| self.edges_of(Variable::known(v)))
     }
 }

@@ -17,7 +17,7 @@ use crate::index::Variable;
 use crate::places::GRAPH_PRICES;
 use crate::priced::Priced;
 use crate::solver::Solver;
-use crate::table::Table;
+use crate::table::{PLACES, Table};
 use prices::Price;
 
 // The sweep from its first table, in which nothing is set yet, at the price zero.
@@ -27,8 +27,8 @@ fn swept<'s, 't, P: Price>(
     first: &'s mut [P],
     second: &'t mut [P],
 ) -> Best<P>
-    requires first { 125 ≤ length first.old }
-    requires second { 125 ≤ length second.old }
+    requires first { length first.old ≡ 125 }
+    requires second { length second.old ≡ 125 }
     requires joined { EdgesOf P.Price (model_at P.Price priced.now) edges.now }
     requires narrow { Narrow P.Price (model_at P.Price priced.now) }
     ensures { Swept P.Price priced.now.graph priced.now.prices.now result.price (pick_of result.picks) }
@@ -56,7 +56,8 @@ fn eliminated<P: Price>(graph: &Graph, prices: &[P], free: &mut [P]) -> Result<B
             cause: Cause::TurnedAway { variable, depth: 0 },
         });
     }
-    let (first, second) = free.split_at_mut(125);
+    let (first, rest) = free.split_at_mut(PLACES);
+    let (second, _) = rest.split_at_mut(PLACES);
     Ok(swept(&priced, &edges, first, second))
 }
 

@@ -23,13 +23,9 @@ impl Graph {
         ensures present { result.present ≡ present % 4096 }
         ensures counts { result.counts ≡ map clamped_to counts }
     {
-        let mut counts = counts;
-        for count in counts.iter_mut() {
-            *count = clamped(*count);
-        }
         Graph {
             present: present & 4095,
-            counts,
+            counts: counts.map(clamped),
         }
     }
 }

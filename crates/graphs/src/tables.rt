@@ -7,11 +7,10 @@ ghost use Rattle.graphs.specs.Stored.{pick_of};
 use crate::best::Best;
 use crate::index::{Below, Variable};
 use crate::masks::holds;
-use crate::table::Table;
+use crate::table::{PLACES, Table};
 use prices::Price;
 
-// A table has a place for each assignment of at most three variables.
-pub(crate) type Place = Below<125>;
+pub(crate) type Place = Below<PLACES>;
 
 // The place of the choices that the frontier's variables, all up to v, have in the picks.
 pub(crate) fn place_of(front: u16, v: Variable, picks: &[u8; 12]) -> Place
@@ -30,12 +29,12 @@ pub(crate) fn place_of(front: u16, v: Variable, picks: &[u8; 12]) -> Place
 
 impl<'t, P: Price> Table<'t, P> {
     pub(crate) fn new(prices: &'t mut [P]) -> Table<'t, P>
-        requires { 125 ≤ length prices.old }
+        requires { length prices.old ≡ 125 }
         ensures { result.prices.ghost_name ≡ prices.entry.ghost_name }
     {
         Table {
             prices,
-            picks: [[0; 12]; 125],
+            picks: [[0; 12]; PLACES],
         }
     }
 
@@ -53,6 +52,7 @@ impl<'t, P: Price> Table<'t, P> {
     pub(crate) fn clear(&mut self)
         ensures { (c : ℕ) → prices_in P.Price self.new.prices.now c ≡ P.Price.greatest }
     {
+        // `fill` clones, and that a clone of any kind's price is that price is no law.
         for price in self.prices.iter_mut() {
             *price = P::top();
         }

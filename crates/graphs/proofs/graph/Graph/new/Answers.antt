@@ -1,20 +1,12 @@
-use Rattle.std.proofs.Common.{◌≡◌, true, sym, subst, arith}
-use Rattle.std.proofs.lemmas.Nat.{and_mask, and_le_r}
-use Rattle.graphs.specs.Counts.{sized}
-use Rattle.graphs.proofs.Clamped.{sized_clamped, all_clamped}
+use Rattle.std.proofs.Common.{rules, tests, ◌≡◌, true, sym, subst, arith}
+use Rattle.graphs.specs.Counts.{sized, clamped_to}
+use Rattle.graphs.proofs.Clamped.{sized_clamped, mapped_by}
 use Rattle.graphs.proofs.graph.Graph.new.Goals as goal
 
-pub invariant_of-result : goal.invariant_of-result
-invariant_of-result c =
-    let e = all_clamped c.args.counts c.loop-count.count-items c.loop-count.invariant.0 (λ k h. c.loop-count.invariant.1 k (omega arith)) in
-    record {
-      few = omega (arith, and_le_r c.args.present 4095);
-      counted = subst (λ l. sized l ≡ true) (sym e) (sized_clamped c.args.counts);
-      twelve = omega (arith, c.loop-count.invariant.0);
-    }
+pub invariant_of-result-clause-counted : goal.invariant_of-result-clause-counted
+invariant_of-result-clause-counted c =
+    let e = mapped_by clamped_to _ c.args.counts c.map.result 12 (omega arith) c.map.ensures.items (λ x y p q k. search (rules, tests)) in
+    subst (λ l. sized l ≡ true) (sym e) (sized_clamped c.args.counts)
 
-pub returns : goal.returns
-returns c = record {
-  present = and_mask c.args.present 12;
-  counts = all_clamped c.args.counts c.loop-count.count-items c.loop-count.invariant.0 (λ k h. c.loop-count.invariant.1 k (omega arith));
-}
+pub returns-clause-counts : goal.returns-clause-counts
+returns-clause-counts c = mapped_by clamped_to _ c.args.counts c.map.result 12 (omega arith) c.map.ensures.items (λ x y p q k. search (rules, tests))
