@@ -1,5 +1,5 @@
 -- What elimination answers.
-use Rattle.std.specs.Prelude.{◌≡◌, ℕ, zero, suc, ◌+◌, ◌<◌, ◌≤◌, Bool, true, false, cond, ◌&&◌, List, [], ◌∷◌, Some, None, Ok, Err, Option, Result, count_ones, nat_lt, slice_index, refl}
+use Rattle.std.specs.Prelude.{◌≡◌, ℕ, zero, suc, ◌+◌, ◌<◌, ◌≤◌, Bool, true, false, cond, ◌&&◌, List, [], ◌∷◌, Some, None, Ok, Err, Option, Result, count_ones, nat_lt, refl}
 use Rattle.std.proofs.Common.{sym, ◌∙◌, subst, ⊎_elim, arith}
 use Rattle.std.proofs.Math.Path.{ap, ap₂}
 use Rattle.std.specs.List.{AllByRecursion, find}
@@ -9,18 +9,16 @@ use Rattle.graphs.specs.declared.graph.Graph.{Graph}
 use Rattle.graphs.specs.declared.best.Best.{Best}
 use Rattle.graphs.specs.declared.fault.Fault.{Fault}
 use Rattle.graphs.specs.declared.fault.Cause.TheVariants.{TurnedAway}
-use Rattle.graphs.specs.Masks.{has, mem, twelve, up_from}
+use Rattle.graphs.specs.Masks.{mem, twelve, up_from}
 use Rattle.graphs.specs.Model.{Model}
-use Rattle.graphs.specs.Edges.{edges, EdgesOf}
+use Rattle.graphs.specs.Edges.{edges}
 use Rattle.graphs.specs.Frontier.{frontier_by, too_wide, widest, at_depth_zero}
 use Rattle.graphs.specs.Kept.{Narrow, Swept}
 use Rattle.graphs.specs.Outcome.{outcome, settled, fitted, refused}
 use Rattle.graphs.specs.Stored.{model_in, pick_of}
 use Rattle.graphs.specs.Bitwise.{on_twelve, all_twelve}
 use Rattle.graphs.specs.Ending.{swept_lowest}
-use Rattle.graphs.specs.Fronts.{frontier_same}
 use Rattle.graphs.specs.Outcomes.{outcome_long}
-use Rattle.graphs.specs.Reading.{mem_members}
 
 -- # The first that passes a test
 first_same : (s t : ℕ → Bool) (xs : List ℕ) → AllByRecursion (λ x. s x ≡ t x) xs → find s xs ≡ find t xs
@@ -88,13 +86,6 @@ module _ {P : Type 0} (k : Kind P) where
   pub none_narrow : (g : Model P) → None ≡ widest k g → Narrow k g
   unfolding widest
   none_narrow g e v l = at_twelve (λ x. too_wide k g x ≡ false) (first_all (too_wide k g) twelve (sym e)) v l
-
-  -- found by the array of edges
-  pub widest_found : (g : Graph) (m : List P) (es : List ℕ) → EdgesOf k (model_in k g m) es →
-      find (λ v. has g.present v && nat_lt 3 (count_ones (frontier_by (λ y. slice_index es y) v))) twelve ≡ widest k (model_in k g m)
-  unfolding widest
-  widest_found g m es h = first_same _ (too_wide k (model_in k g m)) twelve (on_twelve _ (λ v l.
-      ap₂ (λ a b. a && nat_lt 3 (count_ones b)) (sym (mem_members g.present v l)) (frontier_same (λ y. slice_index es y) (edges k (model_in k g m)) v h)))
 
 -- # The answers
 -- what is found of a graph, or that it is turned away

@@ -167,8 +167,6 @@ pub frontier_same : (e f : ℕ → ℕ) (v : ℕ) → ((y : ℕ) → y < 12 → 
 unfolding frontier_by
 frontier_same e f v h = by_same _ _ 12 (λ y l. ap (λ m. nat_le y v && reaches_above m v) (h y l))
 
--- # The first of the twelve that passes a test
-
 -- # Numbers over a mask
 pub five_all : (p v : ℕ) (xs : List ℕ) → Five p v xs → AllByRecursion (λ y. pick_of xs y < 5) (members_below p v)
 five_all p zero xs s = tt

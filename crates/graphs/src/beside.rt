@@ -1,4 +1,4 @@
-// The price of one more choice beside those taken.
+// The price of one more choice beside those taken. That picks are choices (`Taken`) is a fact of a moment, which no type carries.
 ghost use Rattle.std.specs.Prelude.{◌≡◌};
 ghost use Rattle.graphs.specs.Masks.{members_below};
 ghost use Rattle.graphs.specs.Model.{beside, total};

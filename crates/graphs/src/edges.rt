@@ -28,20 +28,10 @@ impl<'a, P: Price> Priced<'a, P> {
         self.graph.choices(u).any(|i| self.is_row_linked(u, v, i))
     }
 
-    // By one test after the other: with `&&` the goals at its joins stayed open.
     fn is_edge(&self, u: Variable, v: Variable) -> bool
         ensures { result ≡ edge P.Price (model_at P.Price self.now) u v }
     {
-        if u == v {
-            return false;
-        }
-        if !self.graph.has(u) {
-            return false;
-        }
-        if !self.graph.has(v) {
-            return false;
-        }
-        self.are_linked(u, v)
+        u != v && self.graph.has(u) && self.graph.has(v) && self.are_linked(u, v)
     }
 
     // The edges of v.

@@ -1,7 +1,6 @@
 // Elimination: a base solver that turns a graph away where a frontier has more than 3 variables.
 ghost use Rattle.std.specs.Prelude.{◌≡◌, ℕ, ◌≤◌, if◌then◌else◌, length, nat_lt, slice_index};
 ghost use Rattle.graphs.specs.Masks.{has};
-ghost use Rattle.graphs.specs.Edges.{EdgesOf};
 ghost use Rattle.graphs.specs.Frontier.{widest, at_depth_zero};
 ghost use Rattle.graphs.specs.Kept.{Narrow, Swept};
 ghost use Rattle.graphs.specs.Stored.{model_at, pick_of};
@@ -11,9 +10,9 @@ ghost use Rattle.std.proofs.Common.{rules};
 use crate::base::{check_room, fitting};
 use crate::best::Best;
 use crate::fault::{Cause, Fault};
-use crate::frontier::too_wide;
 use crate::graph::Graph;
 use crate::index::Variable;
+use crate::linked::Linked;
 use crate::places::GRAPH_PRICES;
 use crate::priced::Priced;
 use crate::solver::Solver;
@@ -21,22 +20,16 @@ use crate::table::{PLACES, Table};
 use prices::Price;
 
 // The sweep from its first table, in which nothing is set yet, at the price zero.
-fn swept<'s, 't, P: Price>(
-    priced: &Priced<P>,
-    edges: &[u16; 12],
-    first: &'s mut [P],
-    second: &'t mut [P],
-) -> Best<P>
+fn swept<'s, 't, P: Price>(linked: &Linked<P>, first: &'s mut [P], second: &'t mut [P]) -> Best<P>
     requires first { length first.old ≡ 125 }
     requires second { length second.old ≡ 125 }
-    requires joined { EdgesOf P.Price (model_at P.Price priced.now) edges.now }
-    requires narrow { Narrow P.Price (model_at P.Price priced.now) }
-    ensures { Swept P.Price priced.now.graph priced.now.prices.now result.price (pick_of result.picks) }
+    requires narrow { Narrow P.Price (model_at P.Price linked.now.priced) }
+    ensures { Swept P.Price linked.now.priced.graph linked.now.priced.prices.now result.price (pick_of result.picks) }
 {
     let mut old = Table::new(first);
     let mut new = Table::new(second);
     old.start();
-    priced.sweep(edges, 0, &mut old, &mut new)
+    linked.sweep(0, &mut old, &mut new)
 }
 
 // The lowest price of all assignments, with one that has it, unless a frontier is too wide. Here a graph and its prices are joined.
@@ -45,12 +38,11 @@ fn eliminated<P: Price>(graph: &Graph, prices: &[P], free: &mut [P]) -> Result<B
     requires free { 300 ≤ length free.old }
     ensures { SweptUnlessTurned P.Price graph.now prices.now result }
 {
-    let priced = Priced {
+    let linked = Linked::new(Priced {
         graph: *graph,
         prices,
-    };
-    let edges = priced.edge_masks();
-    if let Some(v) = too_wide(graph, &edges) {
+    });
+    if let Some(v) = linked.too_wide() {
         let variable = v.number() as u8;
         return Err(Fault {
             cause: Cause::TurnedAway { variable, depth: 0 },
@@ -58,7 +50,7 @@ fn eliminated<P: Price>(graph: &Graph, prices: &[P], free: &mut [P]) -> Result<B
     }
     let (first, rest) = free.split_at_mut(PLACES);
     let (second, _) = rest.split_at_mut(PLACES);
-    Ok(swept(&priced, &edges, first, second))
+    Ok(swept(&linked, first, second))
 }
 
 // Takes over the choices of the present variables.

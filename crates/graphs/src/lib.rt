@@ -13,6 +13,7 @@ mod fault;
 mod frontier;
 mod graph;
 mod index;
+mod linked;
 mod masks;
 mod places;
 mod present;

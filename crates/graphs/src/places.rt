@@ -27,6 +27,7 @@ fn matrix_at(u: Variable, v: Variable, i: Choice, j: Choice) -> usize
 }
 
 // Choice i of u with choice j of v, whichever has the higher number.
+// That u and v differ is asked here and up to where a pair is chosen: a type for pairs would be made and taken apart at each entry.
 pub(crate) fn entry_at(u: Variable, v: Variable, i: Choice, j: Choice) -> usize
     requires { u ≢ v }
     ensures value { result ≡ entry_at u v i j }

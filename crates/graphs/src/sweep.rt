@@ -1,12 +1,11 @@
 // The sweep: one variable after the other, each with a table over the frontier after it.
 ghost use Rattle.std.specs.Prelude.{◌≡◌, ◌+◌, ◌≤◌, length};
-ghost use Rattle.graphs.specs.Edges.{EdgesOf};
 ghost use Rattle.graphs.specs.Kept.{front_at, TableAt, Next, Below, Every, Narrow, Swept};
 ghost use Rattle.graphs.specs.Stored.{model_at, pick_of};
 
 use crate::best::Best;
-use crate::frontier::frontier;
 use crate::index::Variable;
+use crate::linked::Linked;
 use crate::priced::Priced;
 use crate::table::Table;
 use crate::tables::{Place, place_of};
@@ -19,6 +18,8 @@ pub(crate) struct Turn {
     pub front: u16,
 }
 
+// The two tables are lent apart, one to be read and one to be written: so the types say which of them stands. What they keep
+// is said of each moment by `TableAt`.
 impl<'a, P: Price> Priced<'a, P> {
     // Each choice of the turn's variable beside what the old table keeps at place j.
     fn extend(&self, turn: &Turn, j: Place, old: &Table<P>, new: &mut Table<P>)
@@ -52,33 +53,33 @@ impl<'a, P: Price> Priced<'a, P> {
             self.extend(turn, j, old, new);
         }
     }
+}
 
+impl<'a, P: Price> Linked<'a, P> {
     // Takes the variables from `from` on. The old table is the one before them.
     pub(crate) fn sweep<'s, 't>(
         &self,
-        edges: &[u16; 12],
         from: usize,
         old: &mut Table<'s, P>,
         new: &mut Table<'t, P>,
     ) -> Best<P>
         requires end { from ≤ 12 }
-        requires joined { EdgesOf P.Price (model_at P.Price self.now) edges.now }
-        requires narrow { Narrow P.Price (model_at P.Price self.now) }
-        requires slim { length (front_at P.Price self.now.graph self.now.prices.now from) ≤ 3 }
-        requires before { TableAt P.Price self.now from old.old Every }
-        ensures { Swept P.Price self.now.graph self.now.prices.now result.price (pick_of result.picks) }
+        requires narrow { Narrow P.Price (model_at P.Price self.now.priced) }
+        requires slim { length (front_at P.Price self.now.priced.graph self.now.priced.prices.now from) ≤ 3 }
+        requires before { TableAt P.Price self.now.priced from old.old Every }
+        ensures { Swept P.Price self.now.priced.graph self.now.priced.prices.now result.price (pick_of result.picks) }
     {
         let Some(v) = Variable::new(from) else {
             return old.kept(Place::known(0));
         };
-        if !self.graph.has(v) {
-            return self.sweep(edges, from + 1, old, new);
+        if !self.priced.graph.has(v) {
+            return self.sweep(from + 1, old, new);
         }
         let turn = Turn {
             variable: v,
-            front: frontier(edges, v),
+            front: self.frontier(v),
         };
-        self.advance(&turn, old, new);
-        self.sweep(edges, from + 1, new, old)
+        self.priced.advance(&turn, old, new);
+        self.sweep(from + 1, new, old)
     }
 }

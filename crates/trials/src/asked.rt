@@ -11,42 +11,44 @@ pub(crate) struct Asked {
     pub(crate) totals: Counter,
 }
 
-fn check_edges<P: Sample>(case: &Case<P>, u: Variable, mask: u16, failed: &mut Counter) {
-    for v in Variable::all() {
-        let joined = u != v && case.is_edge(u, v);
-        failed.expect(v.is_in(mask) == joined);
-    }
-}
-
-fn ask_edges<P: Sample>(case: &Case<P>, failed: &mut Counter) {
-    match case.shape.graph().edges(&case.prices) {
-        Some(masks) => {
-            for (u, mask) in Variable::all().zip(masks) {
-                check_edges(case, u, mask, failed);
-            }
+impl<P: Sample> Case<P> {
+    fn check_edges(&self, u: Variable, mask: u16, failed: &mut Counter) {
+        for v in Variable::all() {
+            let joined = u != v && self.is_edge(u, v);
+            failed.expect(v.is_in(mask) == joined);
         }
-        None => failed.add(),
     }
-}
 
-// Whether each present variable has a choice in the picks.
-fn is_assignment<P: Sample>(case: &Case<P>, picks: &[u8; 12]) -> bool {
-    Variable::all()
-        .filter(|v| case.shape.has(*v))
-        .all(|v| picks[v.index()] < case.shape.choices(v))
-}
+    fn ask_edges(&self, failed: &mut Counter) {
+        match self.shape.graph().edges(&self.prices) {
+            Some(masks) => {
+                for (u, mask) in Variable::all().zip(masks) {
+                    self.check_edges(u, mask, failed);
+                }
+            }
+            None => failed.add(),
+        }
+    }
 
-fn ask_total<P: Sample>(case: &Case<P>, picks: &[u8; 12], failed: &mut Counter) {
-    let answer = case.shape.graph().total(&case.prices, picks);
-    let right = is_assignment(case, picks).then(|| case.total(picks));
-    failed.expect(answer == right);
+    // Whether each present variable has a choice in the picks.
+    fn is_assignment(&self, picks: &[u8; 12]) -> bool {
+        Variable::all()
+            .filter(|v| self.shape.has(*v))
+            .all(|v| picks[v.index()] < self.shape.choices(v))
+    }
+
+    fn ask_total(&self, picks: &[u8; 12], failed: &mut Counter) {
+        let answer = self.shape.graph().total(&self.prices, picks);
+        let right = self.is_assignment(picks).then(|| self.total(picks));
+        failed.expect(answer == right);
+    }
 }
 
 impl Asked {
     // Random picks are hardly ever an assignment; the first choices always are.
     pub(crate) fn ask<P: Sample>(&mut self, case: &Case<P>) {
-        ask_edges(case, &mut self.edges);
-        ask_total(case, &case.picks, &mut self.totals);
-        ask_total(case, &[0; 12], &mut self.totals);
+        case.ask_edges(&mut self.edges);
+        case.ask_total(&case.picks, &mut self.totals);
+        case.ask_total(&[0; 12], &mut self.totals);
     }
 }

@@ -5,7 +5,7 @@ use crate::chance::Chance;
 use crate::refusal::turned_away;
 use crate::sample::Sample;
 use crate::tally::Tally;
-use crate::trial::try_solver;
+use crate::trial::Trial;
 use graphs::{BranchAndBound, Elimination};
 use std::io;
 
@@ -26,13 +26,16 @@ fn try_graph<P: Sample>(case: &Case<P>, tallies: &mut Tallies) {
     let narrow = case
         .too_wide_after()
         .map_or(always, |variable| Err(turned_away(variable)));
-    try_solver(
-        &mut BranchAndBound,
-        case,
-        always,
-        &mut tallies.branch_and_bound,
-    );
-    try_solver(&mut Elimination, case, narrow, &mut tallies.elimination);
+    let mut searched = Trial {
+        solver: &mut BranchAndBound,
+        tally: &mut tallies.branch_and_bound,
+    };
+    searched.run(case, always);
+    let mut eliminated = Trial {
+        solver: &mut Elimination,
+        tally: &mut tallies.elimination,
+    };
+    eliminated.run(case, narrow);
     tallies.asked.ask(case);
 }
 
@@ -57,6 +60,7 @@ pub(crate) fn run<P: Sample>(
 ) -> io::Result<()> {
     let mut chance = Chance::new(seed);
     let mut tallies = Tallies::default();
+    // This loop repeats; it goes over nothing that an iterator could give.
     for _ in 0..GRAPHS {
         case.redraw(&mut chance);
         try_graph(case, &mut tallies);

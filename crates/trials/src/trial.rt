@@ -15,12 +15,6 @@ struct Solved<P> {
 }
 
 impl<P: Sample> Solved<P> {
-    fn new<S: Solver<P>>(solver: &mut S, case: &Case<P>, memory: &mut [P]) -> Solved<P> {
-        let mut picks = case.picks;
-        let answer = solver.solve(&case.shape.graph(), memory, &mut picks);
-        Solved { answer, picks }
-    }
-
     // The picks of present variables are choices that they have, and the others stay.
     fn check_picks(&self, case: &Case<P>, failed: &mut Disagreements) {
         for v in Variable::all() {
@@ -51,34 +45,54 @@ impl<P: Sample> Solved<P> {
     }
 }
 
-// With one price less than the need nothing at all may change.
-fn try_short<P: Sample, S: Solver<P>>(solver: &mut S, case: &Case<P>, tally: &mut Tally) {
-    let mut memory = case.prices;
-    let solved = Solved::new(solver, case, &mut memory[..NEED - 1]);
-    solved.check(case, Err(SHORT), tally);
-    tally.disagreements.prices.expect(memory == case.prices);
+// A solver that is tried, and the tally of what comes of it.
+#[derive(Drop)]
+pub(crate) struct Trial<'a, S> {
+    pub(crate) solver: &'a mut S,
+    pub(crate) tally: &'a mut Tally,
 }
 
-// With just the need the graph's own prices stand; what lies past them is the solver's.
-fn try_enough<P: Sample, S: Solver<P>>(
-    solver: &mut S,
-    case: &Case<P>,
-    right: Result<P, Told>,
-    tally: &mut Tally,
-) {
-    let mut memory = case.prices;
-    let solved = Solved::new(solver, case, &mut memory);
-    solved.check(case, right, tally);
-    let stand = memory[..GRAPH_PRICES] == case.prices[..GRAPH_PRICES];
-    tally.disagreements.prices.expect(stand);
-}
+impl<'a, S> Trial<'a, S> {
+    fn solve<P: Sample>(&mut self, case: &Case<P>, memory: &mut [P]) -> Solved<P>
+    where
+        S: Solver<P>,
+    {
+        let mut picks = case.picks;
+        let answer = self.solver.solve(&case.shape.graph(), memory, &mut picks);
+        Solved { answer, picks }
+    }
 
-pub(crate) fn try_solver<P: Sample, S: Solver<P>>(
-    solver: &mut S,
-    case: &Case<P>,
-    right: Result<P, Told>,
-    tally: &mut Tally,
-) {
-    try_short(solver, case, tally);
-    try_enough(solver, case, right, tally);
+    // With one price less than the need nothing at all may change.
+    fn try_short<P: Sample>(&mut self, case: &Case<P>)
+    where
+        S: Solver<P>,
+    {
+        let mut memory = case.prices;
+        let solved = self.solve(case, &mut memory[..NEED - 1]);
+        solved.check(case, Err(SHORT), self.tally);
+        self.tally
+            .disagreements
+            .prices
+            .expect(memory == case.prices);
+    }
+
+    // With just the need the graph's own prices stand; what lies past them is the solver's.
+    fn try_enough<P: Sample>(&mut self, case: &Case<P>, right: Result<P, Told>)
+    where
+        S: Solver<P>,
+    {
+        let mut memory = case.prices;
+        let solved = self.solve(case, &mut memory);
+        solved.check(case, right, self.tally);
+        let stand = memory[..GRAPH_PRICES] == case.prices[..GRAPH_PRICES];
+        self.tally.disagreements.prices.expect(stand);
+    }
+
+    pub(crate) fn run<P: Sample>(&mut self, case: &Case<P>, right: Result<P, Told>)
+    where
+        S: Solver<P>,
+    {
+        self.try_short(case);
+        self.try_enough(case, right);
+    }
 }
