@@ -31,7 +31,6 @@ fn locate(answer: Result<(), SheetRefusal>, offset: usize) -> Result<(), RecordR
     answer.map_err(|refusal| RecordRefusal { refusal, offset })
 }
 
-// An `if` with both answers is plainer here than `then_some` and `ok_or`.
 fn fit(length: usize) -> Result<(), FileFault>
     ensures { result ≡ fitted length }
 {
