@@ -20,7 +20,7 @@ use crate::table::{PLACES, Table};
 use prices::Price;
 
 // The sweep from its first table, in which nothing is set yet, at the price zero.
-fn swept<'s, 't, P: Price>(linked: &Linked<P>, first: &'s mut [P], second: &'t mut [P]) -> Best<P>
+fn swept<P: Price>(linked: &Linked<P>, first: &mut [P], second: &mut [P]) -> Best<P>
     requires first { length first.old ≡ 125 }
     requires second { length second.old ≡ 125 }
     requires narrow { Narrow P.Price (model_at P.Price linked.now.priced) }

@@ -12,7 +12,7 @@ impl<'a, P: Price> Priced<'a, P> {
     pub(crate) fn vector(&self, v: Variable, i: Choice) -> P
         ensures { result ≡ (stored P.Price self.now.prices.now).vector v i }
     {
-        self.prices[vector_at(v, i)]
+        self.prices[vector_at(v, i).number()]
     }
 
     // Choice i of u with choice j of v, whichever has the higher number.
@@ -20,6 +20,6 @@ impl<'a, P: Price> Priced<'a, P> {
         requires { u ≢ v }
         ensures { result ≡ cost (stored P.Price self.now.prices.now) u v i j }
     {
-        self.prices[entry_at(u, v, i, j)]
+        self.prices[entry_at(u, v, i, j).number()]
     }
 }

@@ -8,7 +8,7 @@ pub(crate) struct Below<const N: usize> {
     number: usize,
 }
 
-// A contract sees the number alone; `within`, and `variable` of some functions, hand on the bound to proofs that rest on it.
+// A contract sees the number alone; the clauses `within`, `variable` and `place` hand its bound on to proofs that rest on it.
 impl<const N: usize> Model for Below<N> {
     ghost Value = { ℕ };
 

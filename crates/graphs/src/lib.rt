@@ -13,6 +13,7 @@ mod fault;
 mod frontier;
 mod graph;
 mod index;
+mod kept;
 mod linked;
 mod masks;
 mod places;
@@ -22,7 +23,6 @@ mod search;
 mod solver;
 mod sweep;
 mod table;
-mod tables;
 
 pub use branch_and_bound::BranchAndBound;
 pub use elimination::Elimination;

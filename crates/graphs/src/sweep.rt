@@ -1,14 +1,14 @@
 // The sweep: one variable after the other, each with a table over the frontier after it.
-ghost use Rattle.std.specs.Prelude.{◌≡◌, ◌+◌, ◌≤◌, length};
+ghost use Rattle.std.specs.Prelude.{◌+◌, ◌≤◌, length};
 ghost use Rattle.graphs.specs.Kept.{front_at, TableAt, Next, Below, Every, Narrow, Swept};
 ghost use Rattle.graphs.specs.Stored.{model_at, pick_of};
 
 use crate::best::Best;
 use crate::index::Variable;
+use crate::kept::{Place, place_of};
 use crate::linked::Linked;
 use crate::priced::Priced;
 use crate::table::Table;
-use crate::tables::{Place, place_of};
 use prices::Price;
 
 // One turn of the sweep: which variable comes, and the frontier after it.
@@ -18,8 +18,8 @@ pub(crate) struct Turn {
     pub front: u16,
 }
 
-// The two tables are lent apart, one to be read and one to be written: so the types say which of them stands. What they keep
-// is said of each moment by `TableAt`.
+// The two tables are lent apart: a turn reads one and writes the other, so that the types say which of them stands, and the sweep
+// changes their sides. What they keep is said of each moment by `TableAt`.
 impl<'a, P: Price> Priced<'a, P> {
     // Each choice of the turn's variable beside what the old table keeps at place j.
     fn extend(&self, turn: &Turn, j: Place, old: &Table<P>, new: &mut Table<P>)
@@ -57,12 +57,7 @@ impl<'a, P: Price> Priced<'a, P> {
 
 impl<'a, P: Price> Linked<'a, P> {
     // Takes the variables from `from` on. The old table is the one before them.
-    pub(crate) fn sweep<'s, 't>(
-        &self,
-        from: usize,
-        old: &mut Table<'s, P>,
-        new: &mut Table<'t, P>,
-    ) -> Best<P>
+    pub(crate) fn sweep(&self, from: usize, old: &mut Table<P>, new: &mut Table<P>) -> Best<P>
         requires end { from ≤ 12 }
         requires narrow { Narrow P.Price (model_at P.Price self.now.priced) }
         requires slim { length (front_at P.Price self.now.priced.graph self.now.priced.prices.now from) ≤ 3 }

@@ -1,6 +1,6 @@
 // A table: 125 prices of a lent memory, and the picks of each place beside them.
-// The prices are not held in one array with the picks: it cannot be shown of any kind that 125 of its prices fit a value.
-ghost use Rattle.std.specs.Prelude.{◌≡◌, ◌≤◌, length};
+// The prices stand in the memory that a solver asks for by its need; the picks are no prices, so they stand apart from them.
+ghost use Rattle.std.specs.Prelude.{◌≡◌, length};
 
 // How many places a table has: one for each assignment of at most three variables.
 pub(crate) const PLACES: usize = 125;

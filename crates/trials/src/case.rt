@@ -66,7 +66,8 @@ fn draw_prices<P: Sample>(chance: &mut Chance) -> [P; NEED] {
 
 impl<P: Sample> Case<P> {
     // No variables and no prices, to be drawn.
-    // Made in `main` for each kind, and drawn anew: that so many prices fit the address space is not to be shown for any kind.
+    // Made in `main` for each kind, and drawn anew: only of a case that is handed in is it known, for any kind, that it fits the
+    // address space, as one has to that is lent.
     pub(crate) fn new() -> Case<P> {
         Case {
             shape: Shape::default(),

@@ -23,19 +23,19 @@ struct Tallies {
 fn try_graph<P: Sample>(case: &Case<P>, tallies: &mut Tallies) {
     let always = case.answer();
     // A graph that is turned away is not looked at further.
-    let narrow = case
+    let if_narrow = case
         .too_wide_after()
         .map_or(always, |variable| Err(turned_away(variable)));
-    let mut searched = Trial {
+    Trial {
         solver: &mut BranchAndBound,
         tally: &mut tallies.branch_and_bound,
-    };
-    searched.run(case, always);
-    let mut eliminated = Trial {
+    }
+    .run(case, always);
+    Trial {
         solver: &mut Elimination,
         tally: &mut tallies.elimination,
-    };
-    eliminated.run(case, narrow);
+    }
+    .run(case, if_narrow);
     tallies.asked.ask(case);
 }
 

@@ -45,7 +45,8 @@ impl<P: Sample> Solved<P> {
     }
 }
 
-// A solver that is tried, and the tally of what comes of it.
+// A solver that is tried, and the tally of what comes of it. The case is handed to each call: only of one that is handed in is it
+// known that it fits the address space.
 #[derive(Drop)]
 pub(crate) struct Trial<'a, S> {
     pub(crate) solver: &'a mut S,

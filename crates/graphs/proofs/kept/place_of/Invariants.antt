@@ -2,7 +2,7 @@ use Rattle.std.proofs.Common.{◌≡◌, ◌+◌, ◌<◌, ◌≤◌}
 use Rattle.graphs.specs.Masks.{members_below}
 use Rattle.graphs.specs.Kept.{number_of}
 use Rattle.graphs.specs.Stored.{pick_of}
-use Rattle.graphs.proofs.tables.place_of.Given as goal
+use Rattle.graphs.proofs.kept.place_of.Given as goal
 
 abbrev pub invariant-loop-u : goal.invariant-loop-u
 invariant-loop-u l =

@@ -4,7 +4,7 @@ use Rattle.graphs.specs.Kept.{number_of}
 use Rattle.graphs.specs.Stored.{pick_of}
 use Rattle.graphs.specs.Fronts.{five_all, below_shorter, number_in, number_out}
 use Rattle.graphs.specs.Improving.{number_below}
-use Rattle.graphs.proofs.tables.place_of.Goals as goal
+use Rattle.graphs.proofs.kept.place_of.Goals as goal
 
 pub overflow_mul-place : goal.overflow_mul-place
 overflow_mul-place c = let h = c.loop-u.invariant.3 in search rules

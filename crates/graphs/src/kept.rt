@@ -1,4 +1,4 @@
-// Tables over the assignments of a frontier: for each the lowest price, with choices that have it.
+// What a table keeps: for each assignment of a frontier the lowest price, with choices that have it.
 ghost use Rattle.std.specs.Prelude.{◌≡◌, ℕ, ◌+◌, ◌<◌, ◌≤◌, cond, length, slice_set};
 ghost use Rattle.graphs.specs.Masks.{members_below};
 ghost use Rattle.graphs.specs.Kept.{number_of, prices_in, picks_in, Five};
@@ -52,10 +52,8 @@ impl<'t, P: Price> Table<'t, P> {
     pub(crate) fn clear(&mut self)
         ensures { (c : ℕ) → prices_in P.Price self.new.prices.now c ≡ P.Price.greatest }
     {
-        // `fill` clones, and that a clone of any kind's price is that price is no law.
-        for price in self.prices.iter_mut() {
-            *price = P::top();
-        }
+        let top = P::top();
+        self.prices.fill_with(|| top);
     }
 
     // Nothing is set yet, at the price zero.
