@@ -2,12 +2,14 @@
 #![tactic(auto)]
 
 mod input;
+mod keyed;
 mod records;
 mod summary;
 
+use crate::keyed::Keyed;
 use std::io;
 
 fn main(rt: HostRuntime) -> io::Result<()> {
     let file = input::read(&rt)?;
-    summary::report(&rt, file.as_slice())
+    Keyed::new(file.as_slice()).report(&rt)
 }

@@ -1,21 +1,8 @@
 // The records of a file, each with its offset and in words.
+use crate::keyed::Keyed;
 use files::{Part, Reader};
-use sheets::{Kind, Sheet};
+use sheets::Kind;
 use std::io;
-
-// Prints an accepted record; `number` is that of the next line. Answers the number after it: it goes along with the
-// records, since not every record is a line (handed along as `enumerate`, a goal of it stayed open).
-fn print_accepted(rt: &impl Print, sheet: &Sheet, part: Part, number: usize) -> io::Result<usize> {
-    if let (Ok(Kind::Declare), &[_, variable, ..]) = (Kind::of(part.bytes), part.bytes) {
-        if let Some(width) = sheet.width(variable) {
-            println!(rt; "{:>6}  declare v{variable}: {width}", part.offset)?;
-        }
-    } else if let Some(line) = sheet.lines().get(number) {
-        println!(rt; "{:>6}  line {number}: {line}", part.offset)?;
-        return Ok(number + 1);
-    }
-    Ok(number)
-}
 
 fn print_bytes(rt: &impl Print, part: Part) -> io::Result<()> {
     print!(rt; "{:>6}  refused:", part.offset)?;
@@ -25,19 +12,30 @@ fn print_bytes(rt: &impl Print, part: Part) -> io::Result<()> {
     println!(rt; "")
 }
 
-// Prints the records before the offset `end`, which were accepted, and the bytes of the one there, if there is one.
-pub(crate) fn print_records(
-    rt: &impl Print,
-    file: &[u8],
-    sheet: &Sheet,
-    end: usize,
-) -> io::Result<()> {
-    let mut number = 0;
-    for part in Reader::new(file) {
-        if part.offset >= end {
-            return print_bytes(rt, part);
+impl<'a> Keyed<'a> {
+    // Prints an accepted record; `number` is that of the next line. Answers the number after it: it goes along with the
+    // records, since not every record is a line (handed along as `enumerate`, a goal of it stayed open).
+    fn print_accepted(&self, rt: &impl Print, part: Part, number: usize) -> io::Result<usize> {
+        if let (Ok(Kind::Declare), &[_, variable, ..]) = (Kind::of(part.bytes), part.bytes) {
+            if let Some(width) = self.sheet.width(variable) {
+                println!(rt; "{:>6}  declare v{variable}: {width}", part.offset)?;
+            }
+        } else if let Some(line) = self.sheet.lines().get(number) {
+            println!(rt; "{:>6}  line {number}: {line}", part.offset)?;
+            return Ok(number + 1);
         }
-        number = print_accepted(rt, sheet, part, number)?;
+        Ok(number)
     }
-    Ok(())
+
+    // Prints the records before the offset `end`, which were accepted, and the bytes of the one there, if there is one.
+    pub(crate) fn print_records(&self, rt: &impl Print, end: usize) -> io::Result<()> {
+        let mut number = 0;
+        for part in Reader::new(self.file) {
+            if part.offset >= end {
+                return print_bytes(rt, part);
+            }
+            number = self.print_accepted(rt, part, number)?;
+        }
+        Ok(())
+    }
 }

@@ -56,7 +56,7 @@ impl Line {
         }
     }
 
-    // How often the line reads, or writes, a variable.
+    // How often the line reads, or writes, a variable. Both are what `Sheet::tally` is asked by; `named` needs the access alone.
     fn times(self, access: Access, variable: u8) -> u16
         ensures value { result ≡ times variable (named access self) }
         ensures low { result ≤ 2 }

@@ -144,6 +144,7 @@ impl<P: Sample> Case<P> {
     }
 }
 
+// Two variables and their choices, as the library takes them: a type for the four would be taken apart here again.
 fn pair_place(u: Variable, v: Variable, i: u8, j: u8) -> Option<usize> {
     matrix_place(u.index(), v.index(), usize::from(i), usize::from(j))
 }

@@ -9,6 +9,7 @@ use std::array;
 // How many assignments a graph may have, so that all can be tried.
 const MOST_ASSIGNMENTS: u32 = 2000;
 
+// Drawn once for each graph. What is drawn by it takes the source of chance beside it, which other draws take alone.
 #[derive(Clone, Copy, PartialEq, Eq)]
 pub(crate) enum Family {
     // Any counts and any edges.

@@ -46,7 +46,7 @@ impl<P: Sample> Solved<P> {
 }
 
 // A solver that is tried, and the tally of what comes of it. The case is handed to each call: only of one that is handed in is it
-// known that it fits the address space.
+// known that it fits the address space. What is right differs from call to call.
 #[derive(Drop)]
 pub(crate) struct Trial<'a, S> {
     pub(crate) solver: &'a mut S,
