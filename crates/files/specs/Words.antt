@@ -12,5 +12,5 @@ abbrev pub cause_words : FileCause → List ℕ
 cause_words TooLong = codes "the file is above 4096 bytes"
 
 abbrev pub refusal_words : FileRefusal → List ℕ
-refusal_words (File f) = cause_words f.cause ++ (codes " (" ++ (told_words (told (File f)) ++ codes ")"))
+refusal_words (File f) = cause_words f.cause ++ told_words (told (File f))
 refusal_words (Record r) = sheet.refusal_words r.refusal ++ (codes " in the record at offset " ++ decimal r.offset)

@@ -11,7 +11,8 @@ pub enum FileCause {
     TooLong,
 }
 
-// What is refused of the file as a whole, with the place beside the cause as in a `SheetFault`.
+// What is refused of the file as a whole. The place stands beside the cause, though the one cause so far has place 0: with the cause
+// alone it would be no plainer, since what a refusal tells has a place at every level.
 #[derive(Clone, Copy, Debug, PartialEq, Eq)]
 pub struct FileFault {
     pub cause: FileCause,
@@ -48,7 +49,7 @@ impl From<RecordRefusal> for FileRefusal {
 }
 
 impl FileCause {
-    // The number in the table of refusals.
+    // The number in the table of refusals, which a caller outside knows the cause by.
     fn number(self) -> u8
         ensures { result ≡ number_of self }
     {

@@ -19,38 +19,35 @@ use crate::solver::Solver;
 use crate::table::{PLACES, Table};
 use prices::Price;
 
-// The sweep from its first table, in which nothing is set yet, at the price zero.
-fn swept<P: Price>(linked: &Linked<P>, first: &mut [P], second: &mut [P]) -> Best<P>
-    requires first { length first.old ≡ 125 }
-    requires second { length second.old ≡ 125 }
-    requires narrow { Narrow P.Price (model_at P.Price linked.now.priced) }
-    ensures { Swept P.Price linked.now.priced.graph linked.now.priced.prices.now result.price (pick_of result.picks) }
-{
-    let mut old = Table::new(first);
-    let mut new = Table::new(second);
-    old.start();
-    linked.sweep(0, &mut old, &mut new)
-}
-
-// The lowest price of all assignments, with one that has it, unless a frontier is too wide. Here a graph and its prices are joined.
-fn eliminated<P: Price>(graph: &Graph, prices: &[P], free: &mut [P]) -> Result<Best<P>, Fault>
-    requires prices { 1710 ≤ length prices.now }
-    requires free { 300 ≤ length free.old }
-    ensures { SweptUnlessTurned P.Price graph.now prices.now result }
-{
-    let linked = Linked::new(Priced {
-        graph: *graph,
-        prices,
-    });
-    if let Some(v) = linked.too_wide() {
-        let variable = v.number() as u8;
-        return Err(Fault {
-            cause: Cause::TurnedAway { variable, depth: 0 },
-        });
+impl<'a, P: Price> Linked<'a, P> {
+    // The sweep from its first table, in which nothing is set yet, at the price zero.
+    fn swept(&self, first: &mut [P], second: &mut [P]) -> Best<P>
+        requires first { length first.old ≡ 125 }
+        requires second { length second.old ≡ 125 }
+        requires narrow { Narrow P.Price (model_at P.Price self.now.priced) }
+        ensures { Swept P.Price self.now.priced.graph self.now.priced.prices.now result.price (pick_of result.picks) }
+    {
+        let mut old = Table::new(first);
+        let mut new = Table::new(second);
+        old.start();
+        self.sweep(0, &mut old, &mut new)
     }
-    let (first, rest) = free.split_at_mut(PLACES);
-    let (second, _) = rest.split_at_mut(PLACES);
-    Ok(swept(&linked, first, second))
+
+    // The lowest price of all assignments, with one that has it, unless a frontier is too wide.
+    fn eliminated(&self, free: &mut [P]) -> Result<Best<P>, Fault>
+        requires { 300 ≤ length free.old }
+        ensures { SweptUnlessTurned P.Price self.now.priced.graph self.now.priced.prices.now result }
+    {
+        if let Some(v) = self.too_wide() {
+            let variable = v.number() as u8;
+            return Err(Fault {
+                cause: Cause::TurnedAway { variable, depth: 0 },
+            });
+        }
+        let (first, rest) = free.split_at_mut(PLACES);
+        let (second, _) = rest.split_at_mut(PLACES);
+        Ok(self.swept(first, second))
+    }
 }
 
 // Takes over the choices of the present variables.
@@ -81,7 +78,11 @@ impl<P: Price> Solver<P> for Elimination {
     fn solve(&mut self, graph: &Graph, memory: &mut [P], picks: &mut [u8; 12]) -> Result<P, Fault> {
         check_room(memory)?;
         let (prices, free) = memory.split_at_mut(GRAPH_PRICES);
-        let best = eliminated(graph, prices, free)?;
+        let linked = Linked::new(Priced {
+            graph: *graph,
+            prices,
+        });
+        let best = linked.eliminated(free)?;
         let price = fitting(best.price)?;
         assign(graph, picks, &best.picks);
         Ok(price)

@@ -14,7 +14,8 @@ pub enum Cause {
     NothingFits,
 }
 
-// A struct around its cause, as the faults of a sheet and of a file are, so that each level is handed up in one way.
+// A struct around its cause, as the faults of a sheet and of a file are: an enum by itself would be no plainer to hand up, and the
+// levels would differ.
 #[derive(Clone, Copy, Debug, PartialEq, Eq)]
 pub struct Fault {
     pub cause: Cause,

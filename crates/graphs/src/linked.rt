@@ -16,8 +16,7 @@ impl<'a, P: Price> Linked<'a, P> {
     ghost use Rattle.std.specs.Prelude.{◌≡◌};
 
     pub(crate) fn new(priced: Priced<'a, P>) -> Linked<'a, P>
-        ensures graph { result.priced.graph ≡ priced.entry.graph }
-        ensures prices { result.priced.prices.now ≡ priced.entry.prices.now }
+        ensures { result.priced ≡ priced.entry }
     {
         let edges = priced.edge_masks();
         Linked { priced, edges }

@@ -1,6 +1,6 @@
 // What a refusal tells, as a value and in words.
 ghost use Rattle.std.specs.Prelude.{Some};
-ghost use Rattle.refusals.specs.Words.{told_words};
+ghost use Rattle.refusals.specs.Words.{bare_words};
 
 use std::fmt;
 
@@ -14,7 +14,7 @@ pub struct Told {
 }
 
 impl fmt::Display for Told {
-    ghost output = { λ t. Some (told_words t) };
+    ghost output = { λ t. Some (bare_words t) };
 
     fn fmt<W: fmt::Write>(&self, f: &mut fmt::Formatter<W>) -> fmt::Result {
         let Told {

@@ -46,4 +46,4 @@ abbrev pub reason_words : SheetRefusal → List ℕ
 reason_words (Sheet f) = cause_words f.cause
 
 abbrev pub refusal_words : SheetRefusal → List ℕ
-refusal_words r = reason_words r ++ (codes " (" ++ (told_words (told r) ++ codes ")"))
+refusal_words r = reason_words r ++ told_words (told r)

@@ -41,7 +41,7 @@ impl From<SheetFault> for SheetRefusal {
 }
 
 impl Cause {
-    // The number in the table of refusals.
+    // The number in the table of refusals, which a caller outside knows the cause by.
     fn number(self) -> u8
         ensures { result ≡ number_of self }
     {

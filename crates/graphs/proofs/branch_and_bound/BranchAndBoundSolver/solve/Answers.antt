@@ -7,11 +7,11 @@ use Rattle.graphs.specs.Outcomes.{fitted_ok, nothing_fits}
 use Rattle.graphs.specs.Reading.{proper}
 use Rattle.graphs.proofs.branch_and_bound.BranchAndBoundSolver.solve.Goals as goal
 
-pub slice_bounds-searched-end-2 : goal.slice_bounds-searched-end-2
-slice_bounds-searched-end-2 g c = let h : 1710 ≤ length c.args.memory.now = omega (arith, c.in_ok-check_room.ensures) in search rules
+pub slice_bounds-priced-end-2 : goal.slice_bounds-priced-end-2
+slice_bounds-priced-end-2 g c = let h : 1710 ≤ length c.args.memory.now = omega (arith, c.in_ok-check_room.ensures) in search rules
 
-pub searched-best-requires : goal.searched-best-requires
-searched-best-requires g c = simp length-take (omega (arith, c.in_ok-check_room.ensures))
+pub invariant_of-priced : goal.invariant_of-priced
+invariant_of-priced g c = record { whole = simp length-take (omega (arith, c.in_ok-check_room.ensures)) }
 
 pub returns-in_err-price-clause-answer : goal.returns-in_err-price-clause-answer
 returns-in_err-price-clause-answer g c =

@@ -18,7 +18,8 @@ returns-in_err-price-clause-answer g c =
     let gr = c.args.graph.now in
     let mem = c.args.memory.now in
     let best = c.in_ok-best.best in
-    let found = subst (λ pr. SweptUnlessTurned k gr pr (Ok best)) c.split_at_mut-prices.ensures.front c.in_ok-best.ensures in
+    let same = subst (λ s. SweptUnlessTurned k s.graph s.prices.now (Ok best)) c.new-linked.ensures c.in_ok-best.ensures in
+    let found = subst (λ pr. SweptUnlessTurned k gr pr (Ok best)) c.split_at_mut-prices.ensures.front same in
     let p = err_from_is_err_and c.from_residual-in_err-price.result c.from_residual-in_err-price.ensures.1 in
     p.1 ∙ ap Err p.2 ∙ sym c.in_err-price.was ∙ c.fitting.ensures ∙ sym (answer_swept k gr (take 1710 mem) (length mem) c.in_ok-check_room.ensures found.0 best.price (pick_of best.picks) found.1)
 
@@ -37,7 +38,8 @@ returns-clause-answer g c =
     let gr = c.args.graph.now in
     let mem = c.args.memory.now in
     let best = c.in_ok-best.best in
-    let found = subst (λ pr. SweptUnlessTurned k gr pr (Ok best)) c.split_at_mut-prices.ensures.front c.in_ok-best.ensures in
+    let same = subst (λ s. SweptUnlessTurned k s.graph s.prices.now (Ok best)) c.new-linked.ensures c.in_ok-best.ensures in
+    let found = subst (λ pr. SweptUnlessTurned k gr pr (Ok best)) c.split_at_mut-prices.ensures.front same in
     sym c.in_ok-price.was ∙ c.fitting.ensures ∙ sym (answer_swept k gr (take 1710 mem) (length mem) c.in_ok-check_room.ensures found.0 best.price (pick_of best.picks) found.1)
 
 pub returns-clause-stands : goal.returns-clause-stands
@@ -49,7 +51,8 @@ returns-clause-picked g c =
     let gr = c.args.graph.now in
     let mem = c.args.memory.now in
     let best = c.in_ok-best.best in
-    let found = subst (λ pr. SweptUnlessTurned k gr pr (Ok best)) c.split_at_mut-prices.ensures.front c.in_ok-best.ensures in
+    let same = subst (λ s. SweptUnlessTurned k s.graph s.prices.now (Ok best)) c.new-linked.ensures c.in_ok-best.ensures in
+    let found = subst (λ pr. SweptUnlessTurned k gr pr (Ok best)) c.split_at_mut-prices.ensures.front same in
     let f = fitted_ok k best.price c.in_ok-price.price (sym c.fitting.ensures ∙ c.in_ok-price.was) in
     let w = assigned k gr (take 1710 mem) best.price c.args.picks.now best.picks c.assign.new.picks (swept_found k gr (take 1710 mem) best.price (pick_of best.picks) found.1 f.below) c.assign.ensures in
     subst (λ p. Chosen k (model_of k gr mem) p c.args.picks.now c.assign.new.picks) f.same w
