@@ -2,14 +2,14 @@
 #![tactic(auto)]
 
 mod input;
-mod keyed;
 mod records;
+mod report;
 mod summary;
 
-use crate::keyed::Keyed;
+use crate::report::Report;
 use std::io;
 
 fn main(rt: HostRuntime) -> io::Result<()> {
     let file = input::read(&rt)?;
-    Keyed::new(file.as_slice()).report(&rt)
+    Report::new(&rt, file.as_slice()).print()
 }

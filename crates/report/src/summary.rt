@@ -1,26 +1,31 @@
 // What a file holds, what its variables are used for, and what it costs.
-use crate::keyed::Keyed;
+use crate::report::Report;
 use files::FileRefusal;
 use prices::{Plain, Ranked};
 use sheets::{Access, VARIABLES, Width};
 use std::io;
+use std::ops::Range;
 
-impl<'a> Keyed<'a> {
-    fn print_variable(&self, rt: &impl Print, variable: u8, width: Width) -> io::Result<()> {
+// The variables by number, which is what a sheet is asked by.
+fn numbers() -> Range<u8> {
+    0..VARIABLES as u8
+}
+
+impl<'a, R: Print> Report<'a, R> {
+    fn print_variable(&self, variable: u8, width: Width) -> io::Result<()> {
         let read = self.sheet.tally(Access::Read, variable);
         let written = self.sheet.tally(Access::Write, variable);
-        println!(rt;
+        println!(self.rt;
             "  v{variable} ({width}): reads {} (weight {}), writes {} (weight {})",
             read.count, read.weight, written.count, written.weight
         )
     }
 
-    fn print_variables(&self, rt: &impl Print) -> io::Result<()> {
-        println!(rt; "variables:")?;
-        // By its number, which is what a sheet is asked by.
-        for variable in 0..VARIABLES as u8 {
+    fn print_variables(&self) -> io::Result<()> {
+        println!(self.rt; "variables:")?;
+        for variable in numbers() {
             if let Some(width) = self.sheet.width(variable) {
-                self.print_variable(rt, variable, width)?;
+                self.print_variable(variable, width)?;
             }
         }
         Ok(())
@@ -28,32 +33,33 @@ impl<'a> Keyed<'a> {
 
     // How many variables are declared.
     fn count_variables(&self) -> usize {
-        (0..VARIABLES as u8)
+        numbers()
             .filter(|variable| self.sheet.width(*variable).is_some())
             .count()
     }
 
-    fn print_prices(&self, rt: &impl Print) -> io::Result<()> {
+    fn print_prices(&self) -> io::Result<()> {
         let plain: Plain = self.sheet.price_in_memory();
         let ranked: Ranked = self.sheet.price_in_memory();
-        println!(rt; "price with everything in memory: {plain} (plain), {ranked} (ranked)")
+        println!(self.rt; "price with everything in memory: {plain} (plain), {ranked} (ranked)")
     }
 
     // Prints the records up to the refused one, and why it was refused.
-    fn print_refused(&self, rt: &impl Print, refusal: FileRefusal) -> io::Result<()> {
+    fn print_refused(&self, refusal: FileRefusal) -> io::Result<()> {
         if let Some(end) = refusal.offset() {
-            self.print_records(rt, end)?;
+            self.print_records(end)?;
         }
-        println!(rt; "refused: {refusal}")
+        println!(self.rt; "refused: {refusal}")
     }
 
     // How far the file was accepted, and what of it stands.
-    fn print_outcome(&self, rt: &impl Print) -> io::Result<()> {
-        let outcome = match self.answer {
-            Ok(()) => "every record accepted",
-            Err(_) => "stopped at the first refusal",
+    fn print_outcome(&self) -> io::Result<()> {
+        let outcome = if self.answer.is_ok() {
+            "every record accepted"
+        } else {
+            "stopped at the first refusal"
         };
-        println!(rt;
+        println!(self.rt;
             "done: {} bytes read, {outcome}; {} variables and {} lines stand",
             self.file.len(),
             self.count_variables(),
@@ -61,15 +67,15 @@ impl<'a> Keyed<'a> {
         )
     }
 
-    // Prints what came of it.
-    pub(crate) fn report(&self, rt: &impl Print) -> io::Result<()> {
-        println!(rt; "records:")?;
+    // Prints it whole.
+    pub(crate) fn print(&self) -> io::Result<()> {
+        println!(self.rt; "records:")?;
         match self.answer {
-            Ok(()) => self.print_records(rt, self.file.len())?,
-            Err(refusal) => self.print_refused(rt, refusal)?,
+            Ok(()) => self.print_records(self.file.len())?,
+            Err(refusal) => self.print_refused(refusal)?,
         }
-        self.print_variables(rt)?;
-        self.print_prices(rt)?;
-        self.print_outcome(rt)
+        self.print_variables()?;
+        self.print_prices()?;
+        self.print_outcome()
     }
 }

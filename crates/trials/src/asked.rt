@@ -3,6 +3,7 @@ use crate::case::Case;
 use crate::sample::Sample;
 use crate::tally::Counter;
 use crate::variable::Variable;
+use std::fmt;
 
 // How often each was answered otherwise than by hand.
 #[derive(Clone, Copy, Default)]
@@ -50,5 +51,12 @@ impl Asked {
         case.ask_edges(&mut self.edges);
         case.ask_total(&case.picks, &mut self.totals);
         case.ask_total(&[0; 12], &mut self.totals);
+    }
+}
+
+impl fmt::Display for Asked {
+    fn fmt<W: fmt::Write>(&self, f: &mut fmt::Formatter<W>) -> fmt::Result {
+        let Asked { edges, totals } = *self;
+        write!(f, "edges {edges}, totals {totals}")
     }
 }

@@ -1,6 +1,6 @@
 // A random graph with its prices, and random bytes for the picks.
 use crate::chance::Chance;
-use crate::sample::{Sample, Size};
+use crate::sample::{Sample, Size, draw_price};
 use crate::shape::{Family, Shape};
 use crate::variable::Variable;
 use graphs::{matrix_place, vector_place};
@@ -61,7 +61,7 @@ fn draw_steepness(chance: &mut Chance) -> u32 {
 
 fn draw_prices<P: Sample>(chance: &mut Chance) -> [P; NEED] {
     let steep = draw_steepness(chance);
-    array::from_fn(|_| P::sample(Size::draw(chance, steep), chance.bits()))
+    array::from_fn(|_| draw_price(Size::draw(chance, steep), chance.bits()))
 }
 
 impl<P: Sample> Case<P> {
@@ -94,7 +94,7 @@ impl<P: Sample> Case<P> {
     // Takes the price of v's last choice away, so that the last places of the tables matter too.
     fn favour_last(&mut self, v: Variable) {
         let last = self.shape.choices(v).saturating_sub(1);
-        self.clear_place(vector_place(v.index(), usize::from(last)));
+        self.clear_place(choice_place(v, last));
     }
 
     // Takes the prices away between v and the variables below it that the web does not keep.
@@ -106,7 +106,8 @@ impl<P: Sample> Case<P> {
         }
     }
 
-    // Only what the graph has is cleared, choice by choice as they are numbered: beyond the counts nothing may count as an edge.
+    // Only what the graph has is cleared: beyond the counts nothing may count as an edge. A choice is a number here, so that this
+    // loop and that of a row go over numbers.
     fn clear(&mut self, u: Variable, v: Variable) {
         for i in 0..self.shape.choices(u) {
             self.clear_row(u, v, i);
@@ -136,12 +137,16 @@ impl<P: Sample> Case<P> {
     }
 
     pub(crate) fn choice_price(&self, v: Variable, i: u8) -> P {
-        self.price(vector_place(v.index(), usize::from(i)))
+        self.price(choice_place(v, i))
     }
 
     pub(crate) fn pair_price(&self, u: Variable, v: Variable, i: u8, j: u8) -> P {
         self.price(pair_place(u, v, i, j))
     }
+}
+
+fn choice_place(v: Variable, i: u8) -> Option<usize> {
+    vector_place(v.index(), usize::from(i))
 }
 
 // Two variables and their choices, as the library takes them: a type for the four would be taken apart here again.

@@ -44,13 +44,6 @@ fn print_tally(rt: &impl Print, solver: &str, tally: &Tally) -> io::Result<()> {
     println!(rt; "    disagreements: {}", tally.disagreements)
 }
 
-fn print_asked(rt: &impl Print, asked: &Asked) -> io::Result<()> {
-    println!(rt;
-        "  asked of the graphs: disagreements: edges {}, totals {}",
-        asked.edges, asked.totals
-    )
-}
-
 // Draws the case anew for each graph.
 pub(crate) fn run<P: Sample>(
     rt: &impl Print,
@@ -68,5 +61,5 @@ pub(crate) fn run<P: Sample>(
     println!(rt; "{kind} prices: {GRAPHS} graphs")?;
     print_tally(rt, "branch and bound", &tallies.branch_and_bound)?;
     print_tally(rt, "elimination", &tallies.elimination)?;
-    print_asked(rt, &tallies.asked)
+    println!(rt; "  asked of the graphs: disagreements: {}", tallies.asked)
 }

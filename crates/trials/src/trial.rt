@@ -1,4 +1,6 @@
 // One graph through one solver: what it has to answer, and what it has to leave.
+ghost use Rattle.std.specs.Prelude.{◌≤◌};
+
 use crate::case::{Case, NEED};
 use crate::refusal::SHORT;
 use crate::sample::Sample;
@@ -63,37 +65,32 @@ impl<'a, S> Trial<'a, S> {
         Solved { answer, picks }
     }
 
-    // With one price less than the need nothing at all may change.
-    fn try_short<P: Sample>(&mut self, case: &Case<P>)
+    // With a memory of this many prices, of which the first ones have to stand.
+    fn try_room<P: Sample>(
+        &mut self,
+        case: &Case<P>,
+        right: Result<P, Told>,
+        room: usize,
+        standing: usize,
+    )
     where
         S: Solver<P>,
+        requires { room ≤ 2010 × standing ≤ 2010 }
     {
         let mut memory = case.prices;
-        let solved = self.solve(case, &mut memory[..NEED - 1]);
-        solved.check(case, Err(SHORT), self.tally);
-        self.tally
-            .disagreements
-            .prices
-            .expect(memory == case.prices);
-    }
-
-    // With just the need the graph's own prices stand; what lies past them is the solver's.
-    fn try_enough<P: Sample>(&mut self, case: &Case<P>, right: Result<P, Told>)
-    where
-        S: Solver<P>,
-    {
-        let mut memory = case.prices;
-        let solved = self.solve(case, &mut memory);
+        let solved = self.solve(case, &mut memory[..room]);
         solved.check(case, right, self.tally);
-        let stand = memory[..GRAPH_PRICES] == case.prices[..GRAPH_PRICES];
+        let stand = memory[..standing] == case.prices[..standing];
         self.tally.disagreements.prices.expect(stand);
     }
 
+    // With one price less than the need nothing at all may change. With just the need the graph's own prices stand; what lies past
+    // them is the solver's.
     pub(crate) fn run<P: Sample>(&mut self, case: &Case<P>, right: Result<P, Told>)
     where
         S: Solver<P>,
     {
-        self.try_short(case);
-        self.try_enough(case, right);
+        self.try_room(case, Err(SHORT), NEED - 1, NEED);
+        self.try_room(case, right, NEED, GRAPH_PRICES);
     }
 }
