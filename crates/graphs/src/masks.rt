@@ -1,4 +1,4 @@
-// Sets of variables, as masks over the twelve.
+// Sets of variables, as masks over the twelve: numbers of 16 bits and no type of their own, since public calls take and give them.
 ghost use Rattle.std.specs.Prelude.{◌≡◌, ◌<◌};
 ghost use Rattle.graphs.specs.Masks.{has, with_member};
 

@@ -24,7 +24,8 @@ impl<'a, P: Price> Priced<'a, P> {
         best
     }
 
-    // Sets the present variables from `from` on beside those taken at this price, each choice in turn.
+    // Sets the present variables from `from` on beside those taken at this price, each choice in turn. It goes down a tree, and the
+    // number says how far: with an iterator handed down, each choice would need it anew.
     fn descend(&self, from: usize, taken: [u8; 12], price: P, best: &mut Best<P>)
         requires { (from ≤ 12) × Taken self.now.graph from taken }
         ensures { found_in best.new ≡ search P.Price (model_at P.Price self.now) (members_from self.now.graph.present from) (members_below self.now.graph.present from) (pick_of taken) price (found_in best.old) }

@@ -56,7 +56,8 @@ impl<'a, P: Price> Priced<'a, P> {
 }
 
 impl<'a, P: Price> Linked<'a, P> {
-    // Takes the variables from `from` on. The old table is the one before them.
+    // Takes the variables from `from` on. The old table is the one before them. It is no loop: there the two tables would change
+    // places, and the borrow checker does not cover that yet.
     pub(crate) fn sweep(&self, from: usize, old: &mut Table<P>, new: &mut Table<P>) -> Best<P>
         requires end { from ≤ 12 }
         requires narrow { Narrow P.Price (model_at P.Price self.now.priced) }

@@ -15,10 +15,7 @@ impl<'a, R: Print> Report<'a, R> {
     fn print_variable(&self, variable: u8, width: Width) -> io::Result<()> {
         let read = self.sheet.tally(Access::Read, variable);
         let written = self.sheet.tally(Access::Write, variable);
-        println!(self.rt;
-            "  v{variable} ({width}): reads {} (weight {}), writes {} (weight {})",
-            read.count, read.weight, written.count, written.weight
-        )
+        println!(self.rt; "  v{variable} ({width}): reads {read}, writes {written}")
     }
 
     fn print_variables(&self) -> io::Result<()> {

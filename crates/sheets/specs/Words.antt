@@ -1,9 +1,10 @@
--- How lines, widths and refusals are written.
+-- How lines, widths, tallies and refusals are written.
 use Rattle.std.specs.Prelude.{ℕ, List, ◌++◌, codes, decimal}
 use Rattle.sheets.specs.declared.line.Width.{Width}
 use Rattle.sheets.specs.declared.line.Width.TheVariants.{Word, Wide}
 use Rattle.sheets.specs.declared.line.Line.{Line}
 use Rattle.sheets.specs.declared.line.Line.TheVariants.{Input, Output, Copy, Add, Multiply, UpperHalf, GoTo, GoToIfZero, End}
+use Rattle.sheets.specs.declared.access.Tally.{Tally}
 use Rattle.sheets.specs.declared.fault.Cause.{Cause}
 use Rattle.sheets.specs.declared.fault.Cause.TheVariants.{UnknownKind, WrongLength, OutOfRange, DeclaredAgain, Undeclared, WrongWidth, SheetFull, NoLine}
 use Rattle.sheets.specs.declared.fault.SheetRefusal.{SheetRefusal}
@@ -31,6 +32,9 @@ line_words (UpperHalf d s w) = variable d ++ (codes " = upper half of " ++ (vari
 line_words (GoTo t) = codes "go to line " ++ decimal t
 line_words (GoToIfZero s t w) = codes "go to line " ++ (decimal t ++ (codes " if " ++ (variable s ++ (codes " is zero" ++ weighing w))))
 line_words End = codes "end"
+
+abbrev pub tally_words : Tally → List ℕ
+tally_words t = decimal t.count ++ (codes " (weight " ++ (decimal t.weight ++ codes ")"))
 
 abbrev pub cause_words : Cause → List ℕ
 cause_words UnknownKind = codes "the record is empty or not of a kind that this call takes"

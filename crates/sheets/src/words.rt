@@ -1,7 +1,8 @@
-// Lines, widths and refusals in words.
+// Lines, widths, tallies and refusals in words.
 ghost use Rattle.std.specs.Prelude.{Some};
-ghost use Rattle.sheets.specs.Words.{width_words, line_words, cause_words, refusal_words};
+ghost use Rattle.sheets.specs.Words.{width_words, line_words, tally_words, cause_words, refusal_words};
 
+use crate::access::Tally;
 use crate::fault::{Cause, SheetRefusal};
 use crate::line::{Line, Width};
 use std::fmt;
@@ -32,6 +33,14 @@ impl fmt::Display for Line {
             Line::GoToIfZero { s, t, w } => write!(f, "go to line {t} if v{s} is zero, weight {w}"),
             Line::End => write!(f, "end"),
         }
+    }
+}
+
+impl fmt::Display for Tally {
+    ghost output = { λ t. Some (tally_words t) };
+
+    fn fmt<W: fmt::Write>(&self, f: &mut fmt::Formatter<W>) -> fmt::Result {
+        write!(f, "{} (weight {})", self.count, self.weight)
     }
 }
 
