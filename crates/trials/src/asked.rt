@@ -12,6 +12,7 @@ pub(crate) struct Asked {
     pub(crate) totals: Counter,
 }
 
+// What is wrong is counted where it is found, one by one, so the counter goes along.
 impl<P: Sample> Case<P> {
     fn check_edges(&self, u: Variable, mask: u16, failed: &mut Counter) {
         for v in Variable::all() {
