@@ -4,5 +4,6 @@ pub mod Clamped
 pub mod Filled
 pub mod Stepping
 pub mod Branching
+pub mod Eliminating
 pub mod Chains
 pub mod Asking

@@ -65,7 +65,8 @@ impl<'a, S> Trial<'a, S> {
         Solved { answer, picks }
     }
 
-    // With a memory of this many prices, of which the first ones have to stand.
+    // Lends the first prices of the case, as many as `room`, to the solver; of all its prices the first, as many as `standing`, have to
+    // be as they were.
     fn try_room<P: Sample>(
         &mut self,
         case: &Case<P>,
@@ -75,7 +76,7 @@ impl<'a, S> Trial<'a, S> {
     )
     where
         S: Solver<P>,
-        requires { room ≤ 2010 × standing ≤ 2010 }
+        requires { (room ≤ 2010) × (standing ≤ 2010) }
     {
         let mut memory = case.prices;
         let solved = self.solve(case, &mut memory[..room]);
