@@ -4,7 +4,7 @@ use Rattle.std.specs.Fn.{Called}
 use Rattle.std.specs.Iterator.{YieldsThen}
 use Rattle.std.specs.List.{FoldsTo, fold, list_any}
 use Rattle.std.specs.Option.{MatchOption}
-use Rattle.std.proofs.Common.{sym, ap, ap₂, ◌∙◌, ⊎_elim, arith, add-one}
+use Rattle.std.proofs.Common.{sym, ap, ap₂, ◌∙◌, ⊎_elim, arith}
 use Rattle.std.proofs.lemmas.Bool.{and_left, cases_Bool, lt-ltb, le-ltb}
 use Rattle.std.proofs.lemmas.Iterator.{YieldsList}
 use Rattle.std.proofs.lemmas.Iterator.Consumers.{YieldsList-from_shown}
@@ -81,22 +81,25 @@ last_member t m n = go (t n)
     go true = refl
     go false = refl
 
-mask_up : (t : ℕ → Bool) (n : ℕ) → n ≤ 16 → fold with_member 0 (filter t (up_from 0 n)) ≡ mask_by t n
-mask_up t zero h = refl
-mask_up t (suc n) h =
-    ap (λ xs. fold with_member 0 (filter t xs)) (up_more 0 n)
-    ∙ ap (fold with_member 0) (filter-append t (up_from 0 n) ((0 + n) ∷ []))
-    ∙ fold-append with_member 0 (filter t (up_from 0 n)) (filter t ((0 + n) ∷ []))
-    ∙ ap (λ m. fold with_member m (filter t ((0 + n) ∷ []))) (mask_up t n (omega arith))
-    ∙ ap (λ x. fold with_member (mask_by t n) (filter t (x ∷ []))) (omega arith)
-    ∙ last_member t (mask_by t n) n
+mask_up : (t : ℕ → Bool) (a n : ℕ) → a + n ≤ 16 → fold with_member (mask_by t a) (filter t (up_from a n)) ≡ mask_by t (a + n)
+mask_up t a zero h = ap (mask_by t) (omega arith)
+mask_up t a (suc n) h =
+    ap (λ xs. fold with_member (mask_by t a) (filter t xs)) (up_more a n)
+    ∙ ap (fold with_member (mask_by t a)) (filter-append t (up_from a n) ((a + n) ∷ []))
+    ∙ fold-append with_member (mask_by t a) (filter t (up_from a n)) (filter t ((a + n) ∷ []))
+    ∙ ap (λ m. fold with_member m (filter t ((a + n) ∷ []))) (mask_up t a n (omega arith))
+    ∙ last_member t (mask_by t (a + n)) (a + n)
     ∙ ⊎_elim
-    (λ e. ap (λ b. cond b (with_member (mask_by t n) n) (mask_by t n)) e ∙ by_set t n (omega arith) e ∙ ap (mask_by t) (add-one n))
-    (λ e. ap (λ b. cond b (with_member (mask_by t n) n) (mask_by t n)) e ∙ by_skip t n e ∙ ap (mask_by t) (add-one n))
-    (cases_Bool (t n))
+    (λ e. ap (λ b. cond b (with_member (mask_by t (a + n)) (a + n)) (mask_by t (a + n))) e ∙ by_set t (a + n) (omega arith) e ∙ ap (mask_by t) (omega arith))
+    (λ e. ap (λ b. cond b (with_member (mask_by t (a + n)) (a + n)) (mask_by t (a + n))) e ∙ by_skip t (a + n) e ∙ ap (mask_by t) (omega arith))
+    (cases_Bool (t (a + n)))
+
+-- the mask of the numbers below a goes on to that of those below n
+pub mask_from_run : (t : ℕ → Bool) (a n : ℕ) → a ≤ n → n ≤ 16 → fold with_member (mask_by t a) (filter t (run a n)) ≡ mask_by t n
+mask_from_run t a n l h = mask_up t a (n - a) (omega arith) ∙ ap (mask_by t) (omega arith)
 
 pub mask_of_run : (t : ℕ → Bool) (n : ℕ) → n ≤ 16 → fold with_member 0 (filter t (run 0 n)) ≡ mask_by t n
-mask_of_run t n h = ap (λ xs. fold with_member 0 (filter t xs)) (run_from_zero n) ∙ mask_up t n h
+mask_of_run t n h = mask_from_run t 0 n (omega arith) h
 
 -- tests that agree make one mask
 pub mask_same : (s t : ℕ → Bool) (n : ℕ) → ((i : ℕ) → i < n → s i ≡ t i) → mask_by s n ≡ mask_by t n

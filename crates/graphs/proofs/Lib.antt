@@ -7,3 +7,4 @@ pub mod Branching
 pub mod Eliminating
 pub mod Chains
 pub mod Asking
+pub mod Joining

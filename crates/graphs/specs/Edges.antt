@@ -1,7 +1,8 @@
 -- Edges as masks over the twelve variables; a degree is a count of ones.
-use Rattle.std.specs.Prelude.{◌≡◌, ℕ, ◌<◌, Bool, true, not, ◌&&◌, ◌≢◌, List, ◌==◌, count_ones, slice_index}
+use Rattle.std.specs.Prelude.{◌≡◌, ℕ, ◌+◌, ◌-◌, ◌<◌, Bool, true, not, ◌&&◌, ◌≢◌, List, ◌==◌, count_ones, cond, slice_index}
+use Rattle.std.specs.List.{fold}
 use Rattle.prices.specs.declared.price.Price.{Ghosts as Kind}
-use Rattle.graphs.specs.Masks.{has, mask_by, mem, some_below}
+use Rattle.graphs.specs.Masks.{has, mask_by, mem, some_below, up_from, with_member}
 use Rattle.graphs.specs.Model.{Entries, Model, In, cost}
 
 -- whether choice i of u with choice j of v has a price other than zero
@@ -25,6 +26,18 @@ edge k g u v = ((mem u g.variables && mem v g.variables) && not (u == v)) && lin
 -- the variables that u has an edge to; shut, since a mask of twelve tests has many ways
 unfoldable pub edges : {P : Type 0} → Kind P → Model P → ℕ → ℕ
 edges k g u = mask_by (edge k g u) 12
+
+-- the variables below u that it has an edge to
+unfoldable pub lower_edges : {P : Type 0} → Kind P → Model P → ℕ → ℕ
+lower_edges k g u = mask_by (edge k g u) u
+
+-- an array of these of all twelve variables
+abbrev pub LowerOf : {P : Type 0} → Kind P → Model P → List ℕ → Type 0
+LowerOf k g masks = (v : ℕ) → v < 12 → slice_index masks v ≡ lower_edges k g v
+
+-- the edges of v by such an array: its own, and those of the variables above it that lead down to it
+abbrev pub joined : List ℕ → ℕ → ℕ
+joined masks v = fold (λ m u. cond (has (slice_index masks u) v) (with_member m u) m) (slice_index masks v) (up_from (v + 1) (12 - (v + 1)))
 
 -- an array of the edges of all twelve variables
 abbrev pub EdgesOf : {P : Type 0} → Kind P → Model P → List ℕ → Type 0

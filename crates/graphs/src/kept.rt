@@ -27,6 +27,14 @@ pub(crate) fn place_of(front: u16, v: Variable, picks: &[u8; 12]) -> Place
     Place::known(place)
 }
 
+// Twelve picks out of a table: of an array within an array no length is known.
+fn copied(picks: &[u8; 12]) -> [u8; 12]
+    ensures same { result ≡ picks.now }
+    ensures twelve { length result ≡ 12 }
+{
+    *picks
+}
+
 impl<'t, P: Price> Table<'t, P> {
     pub(crate) fn new(prices: &'t mut [P]) -> Table<'t, P>
         requires { length prices.old ≡ 125 }
@@ -38,14 +46,33 @@ impl<'t, P: Price> Table<'t, P> {
         }
     }
 
-    // What is kept at a place.
+    // The price that is kept at a place; top where it is not used.
+    pub(crate) fn price(&self, place: Place) -> P
+        ensures { result ≡ prices_in P.Price self.now.prices.now place }
+    {
+        self.prices[place.number()]
+    }
+
+    // The picks that are kept at a place, if it is used.
+    pub(crate) fn chosen(&self, place: Place) -> [u8; 12]
+        ensures picks { pick_of result ≡ picks_in self.now.picks place }
+        ensures twelve { length result ≡ 12 }
+        ensures place { place < 125 }
+    {
+        copied(&self.picks[place.number()])
+    }
+
+    // Both.
     pub(crate) fn kept(&self, place: Place) -> Best<P>
         ensures price { result.price ≡ prices_in P.Price self.now.prices.now place }
         ensures picks { pick_of result.picks ≡ picks_in self.now.picks place }
         ensures twelve { length result.picks ≡ 12 }
         ensures place { place < 125 }
     {
-        Best::new(self.prices[place.number()], self.picks[place.number()])
+        Best {
+            price: self.price(place),
+            picks: self.chosen(place),
+        }
     }
 
     // No place is used.

@@ -28,13 +28,15 @@ impl<'a, P: Price> Priced<'a, P> {
         requires after { TableAt P.Price self.now (turn.now.variable + 1) new.old (Below P.Price self.now.graph self.now.prices.now turn.now.variable j) }
         ensures { TableAt P.Price self.now (turn.now.variable + 1) new.new (Below P.Price self.now.graph self.now.prices.now turn.now.variable (j + 1)) }
     {
-        let kept = old.kept(j);
-        if P::top().at_most(kept.price) {
+        // Of a place that is not used, as most are, the picks are not looked at.
+        let lowest = old.price(j);
+        if P::top().at_most(lowest) {
             return;
         }
+        let chosen = old.chosen(j);
         for i in self.graph.choices(turn.variable) {
-            let price = self.beside(turn.variable, i, &kept.picks).add(kept.price);
-            let mut picks = kept.picks;
+            let price = self.beside(turn.variable, i, &chosen).add(lowest);
+            let mut picks = chosen;
             picks[turn.variable.number()] = i.number() as u8;
             let place = place_of(turn.front, turn.variable, &picks);
             new.improve(place, Best { price, picks });

@@ -18,7 +18,7 @@ returns-then-at_most g c =
     let t = prices_in k c.args.old.now.prices.now in
     let l = picks_in c.args.old.now.picks in
     let j = c.args.j in
-    let is = c.kept-kept.ensures.price in
+    let is = c.price-lowest.ensures in
     let top : t j ≡ k.greatest = k.laws.no_ties _ _ (k.laws.greatest _) (ap₂ k.at_most (sym c.top.ensures) (sym is) ∙ sym c.if-at_most.ensures) in
     turn_skips k s.graph s.prices.now v fr n t l c.requires.before j (prices_in k c.args.new.now.prices.now) (picks_in c.args.new.now.picks) top c.requires.after
 
@@ -32,15 +32,15 @@ beside-requires g c =
     let t = prices_in k c.args.old.now.prices.now in
     let l = picks_in c.args.old.now.picks in
     let j = c.args.j in
-    let kept = c.kept-kept.ensures.price in
-    let used : k.at_most k.greatest (t j) ≡ false = ap₂ k.at_most (sym c.top.ensures) (sym kept) ∙ sym c.if-at_most.ensures in
-    let low = c.kept-kept.ensures.place in
+    let kept = c.price-lowest.ensures in
+    let used : k.at_most k.greatest (t j) ≡ false = ap₂ k.at_most (sym c.top.ensures) (sym c.price-lowest.ensures) ∙ sym c.if-at_most.ensures in
+    let low = c.chosen-chosen.ensures.place in
     let step = c.in-Some.ensures.steps in
     let inv = c.loop-i.invariant in
     let i = c.in-Some.i in
     let hi : i < (model_at k s).count v = omega (arith, step.0, step.1, inv.0, count_read k s.graph s.prices.now v n.variable n.present) in
-    let xs = c.kept-kept.result.picks in
-    let lj = c.kept-kept.ensures.picks in (
+    let xs = c.chosen-chosen.result in
+    let lj = c.chosen-chosen.ensures.picks in (
       record { variable = n.variable; present = n.present; within = omega (arith, step.0, step.1, inv.0) },
       picks_taken k s.graph s.prices.now v fr n t l c.requires.before j i low used hi xs lj,
     )
@@ -55,17 +55,17 @@ place_of-place-requires g c =
     let t = prices_in k c.args.old.now.prices.now in
     let l = picks_in c.args.old.now.picks in
     let j = c.args.j in
-    let kept = c.kept-kept.ensures.price in
-    let used : k.at_most k.greatest (t j) ≡ false = ap₂ k.at_most (sym c.top.ensures) (sym kept) ∙ sym c.if-at_most.ensures in
-    let low = c.kept-kept.ensures.place in
+    let kept = c.price-lowest.ensures in
+    let used : k.at_most k.greatest (t j) ≡ false = ap₂ k.at_most (sym c.top.ensures) (sym c.price-lowest.ensures) ∙ sym c.if-at_most.ensures in
+    let low = c.chosen-chosen.ensures.place in
     let step = c.in-Some.ensures.steps in
     let inv = c.loop-i.invariant in
     let i = c.in-Some.i in
     let hi : i < (model_at k s).count v = omega (arith, step.0, step.1, inv.0, count_read k s.graph s.prices.now v n.variable n.present) in
-    let xs = c.kept-kept.result.picks in
-    let lj = c.kept-kept.ensures.picks in
+    let xs = c.chosen-chosen.result in
+    let lj = c.chosen-chosen.ensures.picks in
     let at = c.number-in-loop-i.result in
-    let long : v < length xs = omega (arith, n.variable, c.kept-kept.ensures.twelve) in
+    let long : v < length xs = omega (arith, n.variable, c.chosen-chosen.ensures.twelve) in
     let is : pick_of (set xs at c.number.result) ≡ put (l j) v i =
     ap₂ (λ a b. pick_of (set xs a b)) c.number-in-loop-i.ensures.value c.number.ensures.value ∙ pick_set xs v i long ∙ ap (λ (z : ℕ → ℕ). put z v i) lj in
     (n.narrow, set_small k s.graph s.prices.now v fr n t l c.requires.before j i low used hi (set xs at c.number.result) is)
@@ -80,18 +80,18 @@ loop-i-preserved g c =
     let t = prices_in k c.args.old.now.prices.now in
     let l = picks_in c.args.old.now.picks in
     let j = c.args.j in
-    let kept = c.kept-kept.ensures.price in
-    let used : k.at_most k.greatest (t j) ≡ false = ap₂ k.at_most (sym c.top.ensures) (sym kept) ∙ sym c.if-at_most.ensures in
-    let low = c.kept-kept.ensures.place in
+    let kept = c.price-lowest.ensures in
+    let used : k.at_most k.greatest (t j) ≡ false = ap₂ k.at_most (sym c.top.ensures) (sym c.price-lowest.ensures) ∙ sym c.if-at_most.ensures in
+    let low = c.chosen-chosen.ensures.place in
     let step = c.in-Some.ensures.steps in
     let inv = c.loop-i.invariant in
     let i = c.in-Some.i in
     let hi : i < (model_at k s).count v = omega (arith, step.0, step.1, inv.0, count_read k s.graph s.prices.now v n.variable n.present) in
-    let xs = c.kept-kept.result.picks in
-    let lj = c.kept-kept.ensures.picks in
+    let xs = c.chosen-chosen.result in
+    let lj = c.chosen-chosen.ensures.picks in
     let at = c.number-in-loop-i.result in
     let set-xs = set xs at c.number.result in
-    let long : v < length xs = omega (arith, n.variable, c.kept-kept.ensures.twelve) in
+    let long : v < length xs = omega (arith, n.variable, c.chosen-chosen.ensures.twelve) in
     let is : pick_of set-xs ≡ put (l j) v i =
     ap₂ (λ a b. pick_of (set xs a b)) c.number-in-loop-i.ensures.value c.number.ensures.value ∙ pick_set xs v i long ∙ ap (λ (z : ℕ → ℕ). put z v i) lj in
     let price = c.add-price.ensures ∙ ap₂ k.sum (c.beside.ensures ∙ ap (beside k (model_at k s).entries v (members_below s.graph.present v) i) lj) kept in
