@@ -1,6 +1,6 @@
 // A file keyed in: its records handed to a sheet in order, up to the first that is refused.
 ghost use Rattle.std.specs.Prelude.{◌≡◌};
-ghost use Rattle.sheets.specs.Contents.{answered, left};
+ghost use Rattle.sheets.specs.Contents.{content_of, answered, left};
 ghost use Rattle.files.specs.Cut.{cut};
 ghost use Rattle.files.specs.Keyed.{entering, located, fitted, keyed, keyed_records, answer_of};
 ghost use Rattle.files.specs.Rules.{KeyedByRule};
@@ -14,8 +14,8 @@ pub const MAX_FILE: usize = 4096;
 
 // Hands one record to a sheet: a declaration to declare, any other to line.
 fn enter(sheet: &mut Sheet, bytes: &[u8]) -> Result<(), SheetRefusal>
-    ensures answer { result ≡ answered (entering bytes.now sheet.old) }
-    ensures sheet { sheet.new ≡ left (entering bytes.now sheet.old) sheet.old }
+    ensures answer { result ≡ answered (entering bytes.now (content_of sheet.old)) }
+    ensures sheet { content_of sheet.new ≡ left (entering bytes.now (content_of sheet.old)) (content_of sheet.old) }
 {
     if Kind::of(bytes) == Ok(Kind::Declare) {
         sheet.declare(bytes)
@@ -46,9 +46,9 @@ fn fit(length: usize) -> Result<(), FileFault>
 
 // Hands the records of a file to a sheet, and answers the first fault.
 pub fn key_in(file: &[u8], sheet: &mut Sheet) -> Result<(), FileRefusal>
-    ensures answer { result ≡ answer_of (keyed sheet.old file.now).fault }
-    ensures sheet { sheet.new ≡ (keyed sheet.old file.now).content }
-    ensures rule { KeyedByRule sheet.old (cut file.now) (keyed_records sheet.old (cut file.now)) }
+    ensures answer { result ≡ answer_of (keyed (content_of sheet.old) file.now).fault }
+    ensures sheet { content_of sheet.new ≡ (keyed (content_of sheet.old) file.now).content }
+    ensures rule { KeyedByRule (content_of sheet.old) (cut file.now) (keyed_records (content_of sheet.old) (cut file.now)) }
 {
     fit(file.len())?;
     for part in Reader::new(file) {

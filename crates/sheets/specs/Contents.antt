@@ -7,12 +7,16 @@ use Rattle.sheets.specs.declared.fault.SheetFault.{SheetFault}
 use Rattle.sheets.specs.declared.fault.Cause.TheVariants.{SheetFull, NoLine}
 use Rattle.sheets.specs.declared.fault.SheetRefusal.{SheetRefusal}
 use Rattle.sheets.specs.declared.fault.SheetRefusal.TheVariants.{Sheet as BySheet}
+use Rattle.sheets.specs.declared.sheet.Sheet.{Sheet}
 use Rattle.sheets.specs.Records.{fault, declaration_of, line_of}
 
 -- the declared width of each of the twelve variables, and the lines in order
 pub record Content : Type 0 where
   pub widths : List (Option Width)
   pub lines : List Line
+
+abbrev pub content_of : Sheet → Content
+content_of s = record { widths = s.widths; lines = s.lines.items }
 
 abbrev pub blank : Content
 blank = record { widths = replicate 12 None; lines = [] }

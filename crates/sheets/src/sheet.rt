@@ -1,7 +1,8 @@
 // A sheet's memory: the declared widths, and the lines that stand.
+ghost use Rattle.std.specs.Prelude.{◌≡◌, ◌≤◌, length};
+
 use crate::line::{Line, Width};
 use arrayvec::ArrayVec;
-use std::marker::Model;
 
 pub const MAX_LINES: usize = 64;
 
@@ -12,12 +13,6 @@ pub const VARIABLES: usize = 12;
 pub struct Sheet {
     pub(crate) widths: [Option<Width>; VARIABLES],
     pub(crate) lines: ArrayVec<Line, MAX_LINES>,
-}
-
-impl Model for Sheet {
-    ghost use Rattle.sheets.specs.Contents.{Content};
-
-    ghost Value = { Content };
-
-    ghost view = { λ s. record { widths = s.widths; lines = s.lines.items } };
+    ghost few: { length lines.items ≤ 64 },
+    ghost twelve: { length widths ≡ 12 },
 }

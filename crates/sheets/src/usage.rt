@@ -3,6 +3,7 @@ ghost use Rattle.std.specs.Prelude.{◌≡◌, ◌≤◌, length, Some, nat_eq, 
 ghost use Rattle.std.specs.Option.{option_eq, option_to_list};
 ghost use Rattle.sheets.specs.Lines.{reads, writes, weight};
 ghost use Rattle.sheets.specs.Usage.{present, named, times, tally_of};
+ghost use Rattle.sheets.specs.Contents.{content_of};
 ghost use Rattle.sheets.specs.Placement.{line_price, price, everything_in_memory};
 
 use crate::access::{Access, Tally};
@@ -104,14 +105,14 @@ fn line_in_memory<P: Price>(line: Line) -> P
 impl Sheet {
     // How often, and at what weight, the standing lines read or write a variable.
     pub fn tally(&self, access: Access, variable: u8) -> Tally
-        ensures { result ≡ tally_of access self.now.lines variable }
+        ensures { result ≡ tally_of access (content_of self.now).lines variable }
     {
         tally_of(self.lines(), access, variable)
     }
 
     // What the standing lines cost with everything in memory.
     pub fn price_in_memory<P: Price>(&self) -> P
-        ensures { result ≡ price P.Price self.now.lines everything_in_memory }
+        ensures { result ≡ price P.Price (content_of self.now).lines everything_in_memory }
     {
         let mut total = P::zero();
         for line in self.lines() {
