@@ -1,5 +1,5 @@
 -- What stands on a sheet, and what declare, line and withdraw make of it.
-use Rattle.std.specs.Prelude.{ℕ, ◌-◌, cond, List, [], ◌∷◌, ◌++◌, length, take, replicate, Some, None, Ok, Err, Option, Result, nat_lt, slice_set}
+use Rattle.std.specs.Prelude.{◌≡◌, ℕ, ◌-◌, ◌≤◌, cond, List, [], ◌∷◌, ◌++◌, length, take, replicate, Some, None, Ok, Err, Option, Result, nat_lt, slice_set}
 use Rattle.sheets.specs.declared.line.Declaration.{Declaration}
 use Rattle.sheets.specs.declared.line.Line.{Line}
 use Rattle.sheets.specs.declared.line.Width.{Width}
@@ -17,6 +17,13 @@ pub record Content : Type 0 where
 
 abbrev pub content_of : Sheet → Content
 content_of s = record { widths = s.widths; lines = s.lines.items }
+
+-- the bounds of every sheet, whatever was done with it
+pub twelve_widths : (s : Sheet) → length (content_of s).widths ≡ 12
+twelve_widths s = s.twelve
+
+pub few_lines : (s : Sheet) → length (content_of s).lines ≤ 64
+few_lines s = s.few
 
 abbrev pub blank : Content
 blank = record { widths = replicate 12 None; lines = [] }
