@@ -8,7 +8,8 @@ pub const MAX_LINES: usize = 64;
 
 pub const VARIABLES: usize = 12;
 
-// Twelve variables and at most 64 lines, in fixed memory.
+// Twelve variables and at most 64 lines, in fixed memory. It has no model: a caller would see the content alone, and could not
+// show its bounds without a call.
 #[derive(Drop)]
 pub struct Sheet {
     pub(crate) widths: [Option<Width>; VARIABLES],
