@@ -24,7 +24,7 @@ prices_set k t c q h = fun_ext (λ y. ⊎_elim
     (λ ne. get_or-set_other t c y q k.greatest ne ∙ sym (at_other (prices_in k t) c q y ne))
     (cases_eq y c))
 
-picks_set : (l : List (List ℕ)) (c : ℕ) (xs : List ℕ) → c < length l → picks_in (slice_set l c xs) ≡ at_place (picks_in l) c (pick_of xs)
+pub picks_set : (l : List (List ℕ)) (c : ℕ) (xs : List ℕ) → c < length l → picks_in (slice_set l c xs) ≡ at_place (picks_in l) c (pick_of xs)
 picks_set l c xs h = fun_ext (λ y. ⊎_elim
     (λ e. ap (picks_in (slice_set l c xs)) e ∙ ap pick_of (get_or-set_same l c xs [] h) ∙ sym (ap (at_place (picks_in l) c (pick_of xs)) e ∙ at_same (picks_in l) c (pick_of xs)))
     (λ ne. ap pick_of (get_or-set_other l c y xs [] ne) ∙ sym (at_other (picks_in l) c (pick_of xs) y ne))

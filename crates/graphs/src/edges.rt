@@ -10,7 +10,7 @@ use crate::priced::Priced;
 use prices::Price;
 use std::array;
 
-// The edges of v, by the edges of each variable to those below it.
+// The edges of v, by the edges of each variable to those below it. The fold tests by itself, which is quicker than behind a `filter`.
 fn joined(lower: &[u16; 12], v: Variable) -> u16
     ensures { result ≡ joined lower.now v }
 {

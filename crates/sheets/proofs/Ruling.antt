@@ -142,10 +142,10 @@ abbrev pub Apart : {A : Type 0} → List (Row A) → Type 0
 Apart [] = Unit {0}
 Apart (x ∷ xs) = (row_of x.kind xs ≡ None) × Apart xs
 
-declaration_apart : Apart declaration_rows
+pub declaration_apart : Apart declaration_rows
 declaration_apart = (refl, tt)
 
-line_apart : Apart line_rows
+pub line_apart : Apart line_rows
 line_apart = (refl, (refl, (refl, (refl, (refl, (refl, (refl, (refl, (refl, tt)))))))))
 
 row_there : {A : Type 0} (k : ℕ) (rows : List (Row A)) (x : Row A) → Apart rows → Listed x rows → x.kind ≡ k → row_of k rows ≡ Some x
@@ -209,7 +209,7 @@ module _ {A : Type 0} (rows : List (Row A)) (no_zero : row_of 0 rows ≡ None) (
       sym (at_length x o len
       ∙ rw (none_first Test.InRange ws r x.fields (n Test.InRange), none_first Test.Declared ws r x.fields (n Test.Declared), none_first Test.OfWidth ws r x.fields (n Test.OfWidth)))
 
-  by_the_rule : ByTheRule rows ws r (read_as rows ws r)
+  pub by_the_rule : ByTheRule rows ws r (read_as rows ws r)
   by_the_rule = record { holds = ruled rows ws r no_zero; alone = alone }
 
 pub declaration_by_rule : (ws : List (Option Width)) (r : List ℕ) → ByTheRule declaration_rows ws r (declaration_of ws r)
